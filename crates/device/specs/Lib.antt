@@ -1,0 +1,9 @@
+pub mod Sectors
+pub mod Program
+pub mod Machine
+pub mod Layer
+pub mod Reads
+pub mod Flow
+pub mod Plays
+pub mod Towers
+pub mod Memory

@@ -1,0 +1,17 @@
+pub mod Facts
+pub mod Nodes
+pub mod Entries
+pub mod Good
+pub mod Sweeps
+pub mod Changes
+pub mod Bytes
+pub mod Writes
+pub mod Steps
+pub mod Walks
+pub mod Renames
+pub mod Edits
+pub mod Keeping
+pub mod Rows
+pub mod Chains
+pub mod Weights
+pub mod Cuts

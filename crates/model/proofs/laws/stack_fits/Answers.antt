@@ -1,0 +1,5 @@
+use Rattle.model.proofs.Chains
+use Rattle.model.proofs.laws.stack_fits.Needs as need
+
+pub returns : need.returns
+returns c = Rattle.model.proofs.Chains.stackFits

@@ -1,0 +1,5 @@
+use Rattle.model.proofs.Keeping
+use Rattle.model.proofs.laws.tree_stays_sound.Needs as need
+
+pub returns : need.returns
+returns c = Rattle.model.proofs.Keeping.staysSound

@@ -1,0 +1,10 @@
+pub mod Tree
+pub mod Walk
+pub mod Calls
+pub mod Answers
+pub mod Of
+pub mod Sound
+pub mod Laws
+pub mod Examples
+pub mod Chain
+pub mod Room
