@@ -1,0 +1,11 @@
+mod Digits
+mod Readings
+mod Cuts
+mod Commands
+mod Counts
+mod Meanings
+mod Writings
+mod Roundtrips
+mod Spaces
+mod Typed
+mod Printed

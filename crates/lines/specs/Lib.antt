@@ -1,0 +1,12 @@
+pub mod Faults
+pub mod Numbers
+pub mod Bytes
+pub mod Words
+pub mod Verbs
+pub mod Arguments
+pub mod Asks
+pub mod Requests
+pub mod Answers
+pub mod Help
+pub mod Lines
+pub mod Of
