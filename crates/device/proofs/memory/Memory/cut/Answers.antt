@@ -20,7 +20,7 @@ pub returns : goal.returns
 returns c =
     let m = c.args.self.now in
     let last = c.loop-write.self in
-    let none = c.in-default.ensures.cases in
+    let none = c.in_default.ensures.cases in
     let es = nil_from_length last.log.items (sym last.log.ok.0 ∙ none.0) in
     let vs = nil_from_length c.pop.new.self.items (sym c.pop.new.self.ok.0 ∙ none.1) in
     record {
