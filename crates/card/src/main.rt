@@ -36,7 +36,7 @@ fn sound(rt: &HostRuntime, files: &FileSystem<HostCard>) -> anyhow::Result<()> {
         None => Ok(()),
         Some(e) => {
             let text = format!(in rt.alloc(); "the file `card` is in trouble: {e}")?;
-            Err(text.into())
+            Err(anyhow!(text))
         }
     }
 }
@@ -112,7 +112,7 @@ fn serve(rt: &HostRuntime) -> anyhow::Result<()> {
     let mut out = [0u8; 65536];
     let mut files = match FileSystem::open(card, sectors, &mut pages, &mut words) {
         Ok(files) => files,
-        Err(e) => return Err(why(e.why).into()),
+        Err(e) => return Err(anyhow!(why(e.why))),
     };
     sound(rt, &files)?;
     for line in BufReader::new(rt.alloc(), rt.stdin())?.split(rt.alloc(), b'\n') {

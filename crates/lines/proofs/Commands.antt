@@ -1,6 +1,5 @@
 -- The first word of a line, looked up. Assumes nothing.
 use Rattle.std.proofs.Common.{◌≡◌, ℕ, ◌+◌, ◌<◌, ◌≤◌, Bool, true, false, cond, List, [], ◌∷◌, length, get_or, drop, Some, None, Decides, Option, sym, refl, ap, ◌∙◌}
-use Rattle.std.specs.Cmp.Lexicographic.{Matches}
 use Rattle.std.specs.Str.{bytes_eq}
 use Rattle.std.proofs.lemmas.Bool.{cond-true, cond-false}
 use Rattle.std.proofs.lemmas.List.{at_drop_more, at_drop_all}
@@ -10,8 +9,8 @@ use Rattle.lines.specs.declared.verbs.Verb.{Verb}
 use Rattle.lines.specs.Verbs.{verb_word, verb_among}
 
 -- `==` on a word and text is what the definition asks
-pub same : (w t u : List ℕ) (r b : Bool) → Matches (λ (x y : ℕ) (s : Bool). Decides s (x ≡ y)) w t r → t ≡ u → r ≡ b → bytes_eq w u ≡ b
-same w t u r b m e f = ap (bytes_eq w) (sym e) ∙ same_from_decides (bytes_eq w t) r (bytes_eq-Decides w t) (slice_eq-Decides Decides-eqb w t r m) ∙ f
+pub same : (w t u : List ℕ) (r b : Bool) → r ≡ bytes_eq w t → t ≡ u → r ≡ b → bytes_eq w u ≡ b
+same w t u r b m e f = ap (bytes_eq w) (sym e) ∙ sym m ∙ f
 
 among-more : (vs : List Verb) (i : ℕ) (d : Verb) (w : List ℕ) → i < length vs → verb_among (drop i vs) w ≡ cond (bytes_eq w (verb_word (get_or vs i d))) (Some (get_or vs i d)) (verb_among (drop (i + 1) vs) w)
 unfolding verb_among

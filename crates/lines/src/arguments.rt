@@ -30,11 +30,11 @@ pub fn word_at<'a>(args: &[&'a [u8]], place: usize) -> &'a [u8]
 pub fn way_for(word: &[u8]) -> Result<Way, Fault>
     ensures { told way_of result ≡ way_for word.now }
 {
-    if word == b"old" {
+    if word == b"old".as_slice() {
         Ok(Way::Old)
-    } else if word == b"may" {
+    } else if word == b"may".as_slice() {
         Ok(Way::May)
-    } else if word == b"new" {
+    } else if word == b"new".as_slice() {
         Ok(Way::New)
     } else {
         Err(Fault::BadWay)
@@ -45,9 +45,9 @@ pub fn way_for(word: &[u8]) -> Result<Way, Fault>
 pub fn access_for(word: &[u8]) -> Result<bool, Fault>
     ensures { result ≡ access_for word.now }
 {
-    if word == b"read" {
+    if word == b"read".as_slice() {
         Ok(false)
-    } else if word == b"write" {
+    } else if word == b"write".as_slice() {
         Ok(true)
     } else {
         Err(Fault::BadAccess)

@@ -3,7 +3,7 @@
 use Rattle.std.proofs.Common.{◌≡◌, ℕ, zero, suc, ◌+◌, ◌-◌, ◌*◌, ◌/◌, ◌%◌, ◌^◌, ◌<◌, ◌≤◌, Bool, true, ◌&&◌, eqb, ltb, List, [], ◌∷◌, ◌++◌, length, get_or, take, drop, set, Decides, sym, refl, ap, ◌∙◌, inl, inr, add-one, arith, lit<}
 use lib.Bits.{bit_and}
 use borrow.Rule.Slice.PartMut.{put_mid}
-use Rattle.std.specs.Cmp.Lexicographic.{Matches}
+use Rattle.std.specs.Cmp.Lexicographic.{pointwise}
 use Rattle.std.proofs.lemmas.Nat.{shr-shr, and_mask, pow-add, pow_below}
 use Rattle.std.proofs.lemmas.Slice.Eq.{slice_eq-Decides, compares_Decides}
 use Rattle.std.proofs.lemmas.List.{get_or-drop, get_or-take, drop-drop, append-nil, append_assoc, length-append, take_at, take_more_set}
@@ -17,7 +17,7 @@ use Rattle.paging.specs.Sectors.{number_le, bit_of, bits_to, bytes_to, bytes_le,
 use Rattle.pages.proofs.Counts.{one-le}
 
 -- `==` of bytes
-pub same-is : (xs ys : List ℕ) (r : Bool) → Matches (λ (a b : ℕ) (t : Bool). Decides t (a ≡ b)) xs ys r → r ≡ same_bytes xs ys
+pub same-is : (xs ys : List ℕ) (r : Bool) → r ≡ pointwise eqb xs ys → r ≡ same_bytes xs ys
 unfolding same_bytes
 same-is xs ys r h = same_from_decides r (same_bytes xs ys) (slice_eq-Decides Decides-eqb xs ys r h) (compares_Decides same_bytes (record { empty = refl; shorter = λ y ys. refl; longer = λ x xs. refl; heads = λ x y xs ys. refl }) xs ys)
 

@@ -8,10 +8,10 @@ use Rattle.lines.proofs.parse.Goals as goal
 
 pub returns : goal.returns
 returns c =
-    let words = c.as-slice.result.now in
+    let words = c.as_slice.result.now in
     let line = c.args.line.now in
-    let e : words_meant (words_in words) ≡ parse_of line = ap (λ ws. words_meant (words_in ws)) c.as-slice.ensures.value ∙ ap words_meant c.in-ok-words.ensures in
+    let e : words_meant (words_in words) ≡ parse_of line = ap (λ ws. words_meant (words_in ws)) c.as_slice.ensures.value ∙ ap words_meant c.in_ok-words.ensures in
     record {
-      meant = IfOk-weaker c.parse-words.result (λ p. parsed_of p ≡ words_meant (words_in words)) (λ p. parsed_of p ≡ parse_of line) (λ p h. h ∙ e) c.parse-words.ensures;
-      typed = λ q fits t. IfOk-weaker c.parse-words.result (λ p. parsed_of p ≡ words_meant (words_in words)) (λ p. parsed_of p ≡ Ask q) (λ p h. h ∙ e ∙ ap parse_of t ∙ lines-back q fits) c.parse-words.ensures;
+      meant = IfOk-weaker c.parse_words.result (λ p. parsed_of p ≡ words_meant (words_in words)) (λ p. parsed_of p ≡ parse_of line) (λ p h. h ∙ e) c.parse_words.ensures;
+      typed = λ q fits t. IfOk-weaker c.parse_words.result (λ p. parsed_of p ≡ words_meant (words_in words)) (λ p. parsed_of p ≡ Ask q) (λ p h. h ∙ e ∙ ap parse_of t ∙ lines-back q fits) c.parse_words.ensures;
     }

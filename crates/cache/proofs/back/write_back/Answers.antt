@@ -9,7 +9,7 @@ use Rattle.cache.proofs.back.write_back.Goals as goal
 pub returns-then-tag : goal.returns-then-tag
 returns-then-tag g c =
     record {
-      runs = taken (is _) c.if-tag.true (c.put-below.result, c.put-below.new.pages, c.put-below.ensures, (refl, ap (λ (t : Tag). with_tag c.args.i t (seen c.args.held.now)) (sym c.clean-tag.ensures)));
+      runs = taken (is _) c.if-tag.true (c.put_below.result, c.put_below.new.pages, c.put_below.ensures, (refl, ap (λ (t : Tag). with_tag c.args.i t (seen c.args.held.now)) (sym c.clean_tag.ensures)));
       good = c.requires.0;
       count = refl;
     }

@@ -10,6 +10,6 @@ pub returns : goal.returns
 returns g c =
     let b = c.args.bytes.now in
     record {
-      runs = taken (is _) (can c.args.n b (seen c.args.held.now) (omega arith) (can-put b 4096 c.told-bytes c.fits-bytes)) (c.left-left.result, c.left-left.new.self, c.left-left.ensures, c.through-with.ensures.runs);
-      good = c.through-with.ensures.good;
+      runs = taken (is _) (can c.args.n b (seen c.args.held.now) (omega arith) (can-put b 4096 c.told-bytes c.fits-bytes)) (c.left-left.result, c.left-left.new.self, c.left-left.ensures, c.through_with.ensures.runs);
+      good = c.through_with.ensures.good;
     }

@@ -12,5 +12,5 @@ pub returns-in-Sync : goal.returns-in-Sync
 unfolding built
 returns-in-Sync g c = rw c.in-Sync.is (taken (is _) c.if-not-self.false (taken (is _) refl (_, _, c.sync.ensures, (refl, refl))))
 
-pub returns-in-default : goal.returns-in-default
-returns-in-default g c = taken (is _) c.if-not-self.false (left (is _) (not-built c.args.call c.in-default.not-Sync) (refl, refl))
+pub returns-in_default : goal.returns-in_default
+returns-in_default g c = taken (is _) c.if-not-self.false (left (is _) (not-built c.args.call c.in_default.not-Sync) (refl, refl))

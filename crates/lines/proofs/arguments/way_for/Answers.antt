@@ -6,24 +6,24 @@ use Rattle.lines.proofs.arguments.way_for.Goals as goal
 
 pub returns-then-eq : goal.returns-then-eq
 unfolding way_for
-returns-then-eq c = sym (cond-true _ _ _ (same c.args.word.now _ _ _ true c.eq.ensures refl c.if-eq.true))
+returns-then-eq c = sym (cond-true _ _ _ (same c.args.word.now _ _ _ true c.eq.ensures c.as_slice.ensures c.if-eq.true))
 
 pub returns-then-eq-2 : goal.returns-then-eq-2
 unfolding way_for
 returns-then-eq-2 c =
-    sym (cond-false _ _ _ (same c.args.word.now _ _ _ false c.eq.ensures refl c.if-eq.false)
-    ∙ cond-true _ _ _ (same c.args.word.now _ _ _ true c.eq-else-eq.ensures refl c.if-eq-2.true))
+    sym (cond-false _ _ _ (same c.args.word.now _ _ _ false c.eq.ensures c.as_slice.ensures c.if-eq.false)
+    ∙ cond-true _ _ _ (same c.args.word.now _ _ _ true c.eq-else-eq.ensures c.as_slice-else-eq.ensures c.if-eq-2.true))
 
 pub returns-then-eq-3 : goal.returns-then-eq-3
 unfolding way_for
 returns-then-eq-3 c =
-    sym (cond-false _ _ _ (same c.args.word.now _ _ _ false c.eq.ensures refl c.if-eq.false)
-    ∙ cond-false _ _ _ (same c.args.word.now _ _ _ false c.eq-else-eq.ensures refl c.if-eq-2.false)
-    ∙ cond-true _ _ _ (same c.args.word.now _ _ _ true c.eq-else-eq-2.ensures refl c.if-eq-3.true))
+    sym (cond-false _ _ _ (same c.args.word.now _ _ _ false c.eq.ensures c.as_slice.ensures c.if-eq.false)
+    ∙ cond-false _ _ _ (same c.args.word.now _ _ _ false c.eq-else-eq.ensures c.as_slice-else-eq.ensures c.if-eq-2.false)
+    ∙ cond-true _ _ _ (same c.args.word.now _ _ _ true c.eq-else-eq-2.ensures c.as_slice-else-eq-2.ensures c.if-eq-3.true))
 
 pub returns-else-eq-3 : goal.returns-else-eq-3
 unfolding way_for
 returns-else-eq-3 c =
-    sym (cond-false _ _ _ (same c.args.word.now _ _ _ false c.eq.ensures refl c.if-eq.false)
-    ∙ cond-false _ _ _ (same c.args.word.now _ _ _ false c.eq-else-eq.ensures refl c.if-eq-2.false)
-    ∙ cond-false _ _ _ (same c.args.word.now _ _ _ false c.eq-else-eq-2.ensures refl c.if-eq-3.false))
+    sym (cond-false _ _ _ (same c.args.word.now _ _ _ false c.eq.ensures c.as_slice.ensures c.if-eq.false)
+    ∙ cond-false _ _ _ (same c.args.word.now _ _ _ false c.eq-else-eq.ensures c.as_slice-else-eq.ensures c.if-eq-2.false)
+    ∙ cond-false _ _ _ (same c.args.word.now _ _ _ false c.eq-else-eq-2.ensures c.as_slice-else-eq-2.ensures c.if-eq-3.false))

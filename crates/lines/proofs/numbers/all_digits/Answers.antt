@@ -5,14 +5,14 @@ use Rattle.std.proofs.lemmas.Bool.{and_left}
 use Rattle.lines.proofs.Digits.{digits_more, digits-all}
 use Rattle.lines.proofs.numbers.all_digits.Goals as goal
 
-pub returns-then-not-is-ascii-digit : goal.returns-then-not-is-ascii-digit
-returns-then-not-is-ascii-digit c =
-    let e = c.if-not-is-ascii-digit.ensures.value in
+pub returns-then-not-is_ascii_digit : goal.returns-then-not-is_ascii_digit
+returns-then-not-is_ascii_digit c =
+    let e = c.if-not-is_ascii_digit.ensures.value in
     sym (and_left (is_ascii_digit (get_or c.args.word.now c.loop-b.b-index 0)) _ (sym e)) ∙ sym (digits_more c.args.word.now c.loop-b.b-index c.loop-b-test.true) ∙ c.loop-b.invariant
 
 pub loop-b-preserved : goal.loop-b-preserved
 loop-b-preserved c =
-    let e = c.if-not-is-ascii-digit.ensures.value in
+    let e = c.if-not-is_ascii_digit.ensures.value in
     ap (λ b. b && all_ascii_digits (drop (c.loop-b.b-index + 1) c.args.word.now)) e ∙ sym (digits_more c.args.word.now c.loop-b.b-index c.loop-b-test.true) ∙ c.loop-b.invariant
 
 pub returns : goal.returns

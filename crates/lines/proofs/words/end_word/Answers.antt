@@ -3,4 +3,4 @@ use Rattle.lines.proofs.Cuts.{word-added}
 use Rattle.lines.proofs.words.end_word.Goals as goal
 
 pub returns : goal.returns
-returns c = word-added _ _ c.args.word c.in-ok-push.ensures.items (search rules)
+returns c = word-added _ _ c.args.word c.in_ok-push.ensures.items (search rules)

@@ -8,10 +8,10 @@ use Rattle.nodes.proofs.Nodes.{as-entries, entries-of, weight-at}
 use Rattle.nodes.proofs.Puts.{append-steps}
 use Rattle.nodes.proofs.build.append.Goals as goal
 
-pub returns-then-not-has-room : goal.returns-then-not-has-room
-returns-then-not-has-room c =
+pub returns-then-not-has_room : goal.returns-then-not-has_room
+returns-then-not-has_room c =
     let e : Entry = entry_of c.args.key.now c.args.value.now in
-    let t = c.if-not-has-room.ensures in
+    let t = c.if-not-has_room.ensures in
     record {
       told = t;
       kept = λ _. refl;
@@ -23,7 +23,7 @@ returns-then-not-has-room c =
 pub returns : goal.returns
 returns c =
     let e : Entry = entry_of c.args.key.now c.args.value.now in
-    let t = c.if-not-has-room.ensures in
+    let t = c.if-not-has_room.ensures in
     let room = room-taken c.args.page.now e t in
     record {
       told = t;
@@ -32,10 +32,10 @@ returns c =
           let n : c.count-n.result ≡ length es = c.count-n.ensures.is ∙ ap length (entries-of h) in
           let w : c.weight-w.result ≡ weight_of es = c.weight-w.ensures.says ∙ weight-at h in
           let f : weight_of es + entry_weight e ≤ 4088 = omega (arith, room.1, c.weight-w.ensures.says) in
-          all_in c.put-word-3.new.page l es (e ∷ [])
+          all_in c.put_word-3.new.page l es (e ∷ [])
           (record {
-            bytes = append-steps l c.count-n.result c.weight-w.result es e c.args.page.now c.put-entry.new.page c.put-word.new.page c.put-word-2.new.page c.put-word-3.new.page
-                h.bytes n w f c.put-entry.ensures c.put-word.ensures c.put-word-2.ensures c.put-word-3.ensures;
+            bytes = append-steps l c.count-n.result c.weight-w.result es e c.args.page.now c.put_entry.new.page c.put_word.new.page c.put_word-2.new.page c.put_word-3.new.page
+                h.bytes n w f c.put_entry.ensures c.put_word.ensures c.put_word-2.ensures c.put_word-3.ensures;
             fits = omega (arith, weight-append es (e ∷ []), f);
           });
     }

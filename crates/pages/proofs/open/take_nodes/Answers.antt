@@ -8,8 +8,8 @@ loop-i-init g c = (refl, c.requires, no-turn refl)
 
 pub loop-i-preserved : goal.loop-i-preserved
 loop-i-preserved g c =
-    let e = c.slot-of.ensures ∙ ap (slot (c.loop-i.i + 1)) c.slot-counts-slot.ensures in
-    (c.take-node.ensures.size ∙ c.loop-i.invariant.0, c.take-node.ensures.good, turn c.loop-i.invariant.2 (_, _, rw e at c.read.ensures, (refl, sym c.take-node.ensures.is)))
+    let e = c.slot_of.ensures ∙ ap (slot (c.loop-i.i + 1)) c.slot_counts-slot.ensures in
+    (c.take_node.ensures.size ∙ c.loop-i.invariant.0, c.take_node.ensures.good, turn c.loop-i.invariant.2 (_, _, rw e at c.read.ensures, (refl, sym c.take_node.ensures.is)))
 
 pub returns : goal.returns
 returns g c = record { good = c.loop-i.invariant.1; size = c.loop-i.invariant.0; runs = all-turns _ _ c.loop-i.invariant.2 (omega arith) refl }

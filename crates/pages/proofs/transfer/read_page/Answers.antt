@@ -9,7 +9,7 @@ loop-i-init g c = (search rules, no-turn refl)
 
 pub loop-i-preserved : goal.loop-i-preserved
 loop-i-preserved g c =
-    let e = take-put_mid (c.loop-i.i * 512) ((c.loop-i.i + 1) * 512 - c.loop-i.i * 512) c.loop-i.page c.copy-from-slice.new.self ((c.loop-i.i + 1) * 512) (omega arith) (omega arith) in
+    let e = take-put_mid (c.loop-i.i * 512) ((c.loop-i.i + 1) * 512 - c.loop-i.i * 512) c.loop-i.page c.copy_from_slice.new.self ((c.loop-i.i + 1) * 512) (omega arith) (omega arith) in
     (search (rules, places), turn c.loop-i.invariant.1 (_, _, c.read.ensures, (refl, cc)))
 
 pub returns : goal.returns

@@ -6,7 +6,7 @@ pub loop-i-init : goal.loop-i-init
 loop-i-init g c = (search rules, no-turn refl)
 
 pub loop-i-preserved : goal.loop-i-preserved
-loop-i-preserved g c = (c.copy-from-slice.ensures.len ∙ c.loop-i.invariant.0, turn c.loop-i.invariant.1 (_, _, rw c.copy-from-slice.ensures.after at c.write.ensures, (refl, refl)))
+loop-i-preserved g c = (c.copy_from_slice.ensures.len ∙ c.loop-i.invariant.0, turn c.loop-i.invariant.1 (_, _, rw c.copy_from_slice.ensures.after at c.write.ensures, (refl, refl)))
 
 pub returns : goal.returns
 returns g c = all-turns _ _ c.loop-i.invariant.1 (omega arith) refl

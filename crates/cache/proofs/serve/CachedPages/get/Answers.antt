@@ -21,12 +21,12 @@ pub returns-then-self-eq0 : goal.returns-then-self-eq0
 unfolding cache_flow
 returns-then-self-eq0 g c =
     let s = c.args.self.now in
-    get-straight g.P.Pages.goes c.args.n (seen s.frames) s.pages c.if-n-self.false (sym c.find.ensures.is ∙ c.in-default.is) c.get.new.into c.get.new.self c.if-self-eq0.true c.get.ensures
+    get-straight g.P.Pages.goes c.args.n (seen s.frames) s.pages c.if-n-self.false (sym c.find.ensures.is ∙ c.in_default.is) c.get.new.into c.get.new.self c.if-self-eq0.true c.get.ensures
 
 pub returns : goal.returns
 unfolding cache_flow
 returns g c =
     let s = c.args.self.now in
     let u = seen c.evict-i.new.held in
-    get-read g.P.Pages.goes c.args.n (seen s.frames) s.pages c.if-n-self.false (sym c.find.ensures.is ∙ c.in-default.is) c.evict-i.result u (seen c.fill-2.new.self) c.get-2.new.into c.evict-i.new.pages c.get-2.new.self
-    c.if-self-eq0.false c.evict-i.ensures.runs c.evict-i.ensures.hand c.get-2.ensures (c.fill-2.ensures.is ∙ ap (λ (t : Tag). filled c.evict-i.result t c.get-2.new.into u) c.clean-tag.ensures)
+    get-read g.P.Pages.goes c.args.n (seen s.frames) s.pages c.if-n-self.false (sym c.find.ensures.is ∙ c.in_default.is) c.evict-i.result u (seen c.fill-2.new.self) c.get-2.new.into c.evict-i.new.pages c.get-2.new.self
+    c.if-self-eq0.false c.evict-i.ensures.runs c.evict-i.ensures.hand c.get-2.ensures (c.fill-2.ensures.is ∙ ap (λ (t : Tag). filled c.evict-i.result t c.get-2.new.into u) c.clean_tag.ensures)

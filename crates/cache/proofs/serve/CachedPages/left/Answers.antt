@@ -7,5 +7,5 @@ pub returns : goal.returns
 unfolding cache_flow
 returns g c =
     let l = c.left-left.result in
-    let e = c.saturating-sub.ensures ∙ ap (λ (k : ℕ). l - k) c.marks.ensures in
+    let e = c.saturating_sub.ensures ∙ ap (λ (k : ℕ). l - k) c.marks.ensures in
     (l, c.left-left.new.self, c.left-left.ensures, (refl, λ j. (sym e j, seen c.args.self.now.frames)))

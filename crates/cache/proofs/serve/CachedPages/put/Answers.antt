@@ -3,4 +3,4 @@ use Rattle.cache.proofs.serve.CachedPages.put.Goals as goal
 
 pub returns : goal.returns
 unfolding cache_flow
-returns g c = c.put-page.ensures.runs
+returns g c = c.put_page.ensures.runs

@@ -3,4 +3,4 @@ use Rattle.cache.proofs.serve.CachedPages.put_through.Goals as goal
 
 pub returns : goal.returns
 unfolding cache_flow
-returns g c = c.put-past.ensures.runs
+returns g c = c.put_past.ensures.runs

@@ -13,14 +13,14 @@ loop-init g c = (refl, no-try refl)
 
 pub loop-preserved : goal.loop-preserved
 loop-preserved g c =
-    let e = ap (λ (f : Frames). is_marked (seen f) c.spare-n.result) (sym c.loop.invariant.0) ∙ (sym c.is-marked.ensures ∙ c.if-not-is-marked.false) in
+    let e = ap (λ (f : Frames). is_marked (seen f) c.spare-n.result) (sym c.loop.invariant.0) ∙ (sym c.is_marked.ensures ∙ c.if-not-is_marked.false) in
     (c.loop.invariant.0, try-on c.loop.invariant.1 (spare-on g.P.Pages.goes (seen c.args.self.now.frames) c.loop.counter c.loop.at c.spare-n.result c.loop.self.pages c.spare-n.new.self c.spare-n.ensures e))
 
-pub returns-then-not-is-marked : goal.returns-then-not-is-marked
+pub returns-then-not-is_marked : goal.returns-then-not-is_marked
 unfolding cache_flow
-returns-then-not-is-marked g c =
+returns-then-not-is_marked g c =
     let m = seen c.args.self.now.frames in
-    let e = ap (λ (f : Frames). is_marked (seen f) c.spare-n.result) (sym c.loop.invariant.0) ∙ (sym c.is-marked.ensures ∙ c.if-not-is-marked.true) in
+    let e = ap (λ (f : Frames). is_marked (seen f) c.spare-n.result) (sym c.loop.invariant.0) ∙ (sym c.is_marked.ensures ∙ c.if-not-is_marked.true) in
     leaves _ (λ _. spare_after c.args.from m) _ _ c.loop.invariant.1 (omega arith)
     (spare-out g.P.Pages.goes m c.loop.counter c.loop.at c.spare-n.result c.loop.self.pages c.spare-n.new.self c.spare-n.ensures (seen c.loop.self.frames) e (ap seen (sym c.loop.invariant.0)))
 
@@ -29,4 +29,4 @@ unfolding cache_flow
 returns g c =
     let m = seen c.args.self.now.frames in
     lasts _ (λ _. spare_after c.args.from m) _ _ c.loop.invariant.1 (omega arith)
-    (subst (λ (m : Cache). Runs g.P.Pages.goes (spare_after c.args.from m) c.loop.self.pages c.spare-after.new.pages (c.spare-after.result, seen c.spare-after.new.held)) (ap seen c.loop.invariant.0) c.spare-after.ensures.runs)
+    (subst (λ (m : Cache). Runs g.P.Pages.goes (spare_after c.args.from m) c.loop.self.pages c.spare_after.new.pages (c.spare_after.result, seen c.spare_after.new.held)) (ap seen c.loop.invariant.0) c.spare_after.ensures.runs)

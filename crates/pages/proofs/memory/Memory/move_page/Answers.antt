@@ -3,5 +3,5 @@ use Rattle.pages.proofs.memory.Memory.move_page.Goals as goal
 
 pub returns : goal.returns
 returns c =
-    moved-step c.args.self.now c.place.new.self c.mark.new.self c.set-volatile.new.self c.args.n c.args.v c.leaf-of-leaf.result c.args.volatile c.leaf-of-leaf.ensures c.place.ensures c.mark.ensures
-    c.set-volatile.ensures
+    moved-step c.args.self.now c.place.new.self c.mark.new.self c.set_volatile.new.self c.args.n c.args.v c.leaf_of-leaf.result c.args.volatile c.leaf_of-leaf.ensures c.place.ensures c.mark.ensures
+    c.set_volatile.ensures

@@ -6,21 +6,21 @@ use Rattle.paging.specs.Sectors.{inner_sector, leaf_sector}
 use Rattle.pages.specs.Of.{seen}
 use Rattle.pages.proofs.memory.Memory.node_sector.Goals as goal
 
-pub put-bits-requires : goal.put-bits-requires
-put-bits-requires c = (c.requires.0, omega arith)
+pub put_bits-requires : goal.put_bits-requires
+put_bits-requires c = (c.requires.0, omega arith)
 
-pub put-places-requires : goal.put-places-requires
-put-places-requires c = (c.requires.0, omega arith)
+pub put_places-requires : goal.put_places-requires
+put_places-requires c = (c.requires.0, omega arith)
 
 pub returns-then-node-inner : goal.returns-then-node-inner
 returns-then-node-inner c =
     let m = seen c.args.self.now in
-    c.put-bits.ensures ∙
+    c.put_bits.ensures ∙
     sym (cond-true _ (inner_sector (λ b. selected m (child c.args.node b))) (leaf_sector (λ j. durable m (64 * (c.args.node - inner m.size) + j))) (lt-ltb c.args.node (inner m.size) (omega arith)))
 
 pub returns : goal.returns
 returns c =
     let m = seen c.args.self.now in
-    c.put-places.ensures ∙
-    (ap (λ (i : ℕ). leaf_sector (λ j. durable m (64 * (c.args.node - i) + j))) c.inner-of-inner.ensures ∙
+    c.put_places.ensures ∙
+    (ap (λ (i : ℕ). leaf_sector (λ j. durable m (64 * (c.args.node - i) + j))) c.inner_of-inner.ensures ∙
     sym (cond-false _ (inner_sector (λ b. selected m (child c.args.node b))) (leaf_sector (λ j. durable m (64 * (c.args.node - inner m.size) + j))) (le-ltb c.args.node (inner m.size) (omega arith))))

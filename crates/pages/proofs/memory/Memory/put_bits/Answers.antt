@@ -13,7 +13,7 @@ loop-t-init c = (search rules, byte-none _ _)
 pub loop-t-preserved : goal.loop-t-preserved
 loop-t-preserved c =
     let f : ℕ → Bool = λ b. selected (seen c.args.self.now) (child c.args.node b) in
-    (search rules, byte_more c.loop-t.sector (take 256 c.args.sector.now) c.loop-t.t c.bits-byte.result f (omega arith) c.loop-t.invariant.1 c.bits-byte.ensures)
+    (search rules, byte_more c.loop-t.sector (take 256 c.args.sector.now) c.loop-t.t c.bits_byte.result f (omega arith) c.loop-t.invariant.1 c.bits_byte.ensures)
 
 pub returns : goal.returns
 returns c =

@@ -12,8 +12,8 @@ loop-j-init c = (search rules, place_none c.args.sector.now _)
 pub loop-j-preserved : goal.loop-j-preserved
 loop-j-preserved c =
     let f : ℕ → ℕ = λ j. durable (seen c.args.self.now) (c.args.first + j) in
-    let e : c.copy-from-slice.new.self ≡ bytes_le 8 (f c.loop-j.j) = c.copy-from-slice.ensures.after ∙ (c.to-le-bytes.ensures ∙ (le_is c.durable-at-v.result ∙ ap (bytes_le 8) c.durable-at-v.ensures)) in
-    (search (rules, places), place-more c.loop-j.sector c.copy-from-slice.new.self c.loop-j.j ((8 * c.loop-j.j + 8) - 8 * c.loop-j.j) f (omega arith) (omega arith) c.loop-j.invariant.1 e)
+    let e : c.copy_from_slice.new.self ≡ bytes_le 8 (f c.loop-j.j) = c.copy_from_slice.ensures.after ∙ (c.to_le_bytes.ensures ∙ (le_is c.durable_at-v.result ∙ ap (bytes_le 8) c.durable_at-v.ensures)) in
+    (search (rules, places), place-more c.loop-j.sector c.copy_from_slice.new.self c.loop-j.j ((8 * c.loop-j.j + 8) - 8 * c.loop-j.j) f (omega arith) (omega arith) c.loop-j.invariant.1 e)
 
 pub returns : goal.returns
 returns c =

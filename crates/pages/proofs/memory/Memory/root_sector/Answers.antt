@@ -6,5 +6,5 @@ use Rattle.pages.proofs.memory.Memory.root_sector.Goals as goal
 
 pub returns : goal.returns
 returns c =
-    root_is form_bytes c.args.label.now blank_sector c.copy-from-slice.new.self c.copy-from-slice-2.new.self c.put-bits.new.sector _ refl c.told-label c.copy-from-slice.ensures.after c.copy-from-slice-2.ensures.after
-    c.put-bits.ensures
+    root_is form_bytes c.args.label.now blank_sector c.copy_from_slice.new.self c.copy_from_slice-2.new.self c.put_bits.new.sector _ refl c.told-label c.copy_from_slice.ensures.after c.copy_from_slice-2.ensures.after
+    c.put_bits.ensures

@@ -8,7 +8,7 @@ pub loop-i-init : goal.loop-i-init
 loop-i-init c = record { is = sym (settled_from-none c.args.first (seen c.args.self.now)); size = refl; good = c.requires.0 }
 
 pub loop-i-preserved : goal.loop-i-preserved
-loop-i-preserved c = next-settled c.args.self.now c.loop-i.self c.settle-at.new.self c.loop-i.i c.args.first c.loop-i.invariant c.settle-at.ensures
+loop-i-preserved c = next-settled c.args.self.now c.loop-i.self c.settle_at.new.self c.loop-i.i c.args.first c.loop-i.invariant c.settle_at.ensures
 
 pub returns : goal.returns
 returns c =

@@ -8,7 +8,7 @@ pub loop-b-init : goal.loop-b-init
 loop-b-init c = record { is = bits_none c.args.node c.args.sector.now (seen c.args.self.now); size = refl; good = c.requires.0 }
 
 pub loop-b-preserved : goal.loop-b-preserved
-loop-b-preserved c = bits-more c.args.self.now c.loop-b.self c.take-bit.new.self c.loop-b.b c.args.node c.args.sector.now c.loop-b.invariant c.take-bit.ensures
+loop-b-preserved c = bits-more c.args.self.now c.loop-b.self c.take_bit.new.self c.loop-b.b c.args.node c.args.sector.now c.loop-b.invariant c.take_bit.ensures
 
 pub returns : goal.returns
 returns c =

@@ -8,7 +8,7 @@ pub loop-j-init : goal.loop-j-init
 loop-j-init c = record { is = places-none c.args.first c.args.sector.now (seen c.args.self.now); size = refl; good = c.requires.0 }
 
 pub loop-j-preserved : goal.loop-j-preserved
-loop-j-preserved c = places-more c.args.self.now c.loop-j.self c.take-page.new.self c.loop-j.j c.args.first c.args.sector.now c.loop-j.invariant c.take-page.ensures
+loop-j-preserved c = places-more c.args.self.now c.loop-j.self c.take_page.new.self c.loop-j.j c.args.first c.args.sector.now c.loop-j.invariant c.take_page.ensures
 
 pub returns : goal.returns
 returns c =

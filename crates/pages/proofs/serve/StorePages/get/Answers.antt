@@ -9,11 +9,11 @@ unfolding store_flow
 returns-then-place-eq0 g c =
     let s = c.args.self.now in
     let f : c.fill.new.self ≡ replicate 4096 0 = c.fill.ensures.after (λ y e. e) ∙ ap (λ (n : ℕ). replicate n 0) c.told-into in
-    get-blank g.D.Device.steps s.up s.label (seen s.memory) s.device c.args.n c.fill.new.self (sym c.place-of-place.ensures ∙ c.if-place-eq0.true) f
+    get-blank g.D.Device.steps s.up s.label (seen s.memory) s.device c.args.n c.fill.new.self (sym c.place_of-place.ensures ∙ c.if-place-eq0.true) f
 
 pub returns : goal.returns
 unfolding store_flow
 returns g c =
     let s = c.args.self.now in
-    get-read g.D.Device.steps s.up s.label (seen s.memory) s.device c.args.n c.place-of-place.result c.home-of-home.result c.read-page.new.page c.read-page.new.device c.place-of-place.ensures
-    c.if-place-eq0.false c.home-of-home.ensures c.read-page.ensures
+    get-read g.D.Device.steps s.up s.label (seen s.memory) s.device c.args.n c.place_of-place.result c.home_of-home.result c.read_page.new.page c.read_page.new.device c.place_of-place.ensures
+    c.if-place-eq0.false c.home_of-home.ensures c.read_page.ensures

@@ -3,4 +3,4 @@ use Rattle.pages.proofs.serve.StorePages.put.Goals as goal
 
 pub returns : goal.returns
 unfolding store_flow
-returns g c = c.put-page.ensures
+returns g c = c.put_page.ensures

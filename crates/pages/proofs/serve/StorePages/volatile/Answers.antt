@@ -8,19 +8,19 @@ pub returns-then-not-self : goal.returns-then-not-self
 unfolding store_flow
 returns-then-not-self g c = let s = c.args.self.now in volatile-down g.D.Device.steps s.up s.label (seen s.memory) s.device c.args.n c.if-not-self.true
 
-pub returns-then-n-numbers-of : goal.returns-then-n-numbers-of
+pub returns-then-n-numbers_of : goal.returns-then-n-numbers_of
 unfolding store_flow
-returns-then-n-numbers-of g c = let s = c.args.self.now in volatile-none g.D.Device.steps s.up s.label (seen s.memory) s.device c.args.n c.if-not-self.false (omega arith)
+returns-then-n-numbers_of g c = let s = c.args.self.now in volatile-none g.D.Device.steps s.up s.label (seen s.memory) s.device c.args.n c.if-not-self.false (omega arith)
 
 pub returns-then-place-ne0 : goal.returns-then-place-ne0
 unfolding store_flow
 returns-then-place-ne0 g c =
     let s = c.args.self.now in
-    volatile-moved g.D.Device.steps s.up s.label (seen s.memory) s.device c.args.n c.now-of-place.result (seen c.move-page.new.self) c.if-not-self.false (omega arith) c.now-of-place.ensures c.if-place-ne0.true
-    c.move-page.ensures.is
+    volatile-moved g.D.Device.steps s.up s.label (seen s.memory) s.device c.args.n c.now_of-place.result (seen c.move_page.new.self) c.if-not-self.false (omega arith) c.now_of-place.ensures c.if-place-ne0.true
+    c.move_page.ensures.is
 
 pub returns-else-place-ne0 : goal.returns-else-place-ne0
 unfolding store_flow
 returns-else-place-ne0 g c =
     let s = c.args.self.now in
-    volatile-blank g.D.Device.steps s.up s.label (seen s.memory) s.device c.args.n c.now-of-place.result c.if-not-self.false (omega arith) c.now-of-place.ensures c.if-place-ne0.false
+    volatile-blank g.D.Device.steps s.up s.label (seen s.memory) s.device c.args.n c.now_of-place.result c.if-not-self.false (omega arith) c.now_of-place.ensures c.if-place-ne0.false

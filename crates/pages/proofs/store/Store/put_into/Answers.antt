@@ -8,5 +8,5 @@ returns-then-place-eq0 g c = let s = c.args.self.now in into-none g.D.Device.ste
 pub returns : goal.returns
 returns g c =
     let s = c.args.self.now in
-    into-place g.D.Device.steps s.up s.label (seen s.memory) s.device c.args.n c.args.place c.home-of-home.result c.args.bytes.now c.args.volatile (seen c.move-page.new.self) c.write-page.new.device c.requires.0
-    c.if-place-eq0.false c.home-of-home.ensures c.write-page.ensures c.move-page.ensures.is
+    into-place g.D.Device.steps s.up s.label (seen s.memory) s.device c.args.n c.args.place c.home_of-home.result c.args.bytes.now c.args.volatile (seen c.move_page.new.self) c.write_page.new.device c.requires.0
+    c.if-place-eq0.false c.home_of-home.ensures c.write_page.ensures c.move_page.ensures.is
