@@ -1,6 +1,6 @@
 -- What the code asks of the store is what the machine does on the device.
 -- Assumes nothing.
-use Rattle.std.proofs.Common.{◌≡◌, ℕ, ◌+◌, ◌*◌, ◌≤◌, Bool, true, false, cond, ltb, List, Some, None, Option, sym, refl, ap, ◌∙◌, arith, Bor}
+use Rattle.std.proofs.Common.{◌≡◌, ℕ, ◌+◌, ◌*◌, ◌≤◌, Bool, true, false, cond, ltb, List, Some, None, Option, sym, refl, ap, ◌∙◌, arith, MutBor}
 use mathlib.Core.Path.{subst⁻¹}
 use Rattle.std.proofs.lemmas.Bool.{le-ltb}
 use Rattle.device.specs.Program.{Io, and_then}
@@ -34,10 +34,10 @@ use Rattle.calls_on_store.specs.Of.{OnStore, device_below, pages_mem, StoreGoes,
 use Rattle.calls_on_store.specs.declared.OpenError.TheVariants.{TooFewSectors, TooManySectors, TooFewWords}
 
 module _ {D : Type 0} (steps : D → (c : Asked) → Told c → D → Type 0) (frames : ℕ) where
-  abbrev dev : Bor (Store D) → D
+  abbrev dev : MutBor (Store D) → D
   dev s = s.now.device
 
-  abbrev stored : Bor (Store D) → Stored
+  abbrev stored : MutBor (Store D) → Stored
   stored s = stored_of s.now
 
   -- a call of the cache

@@ -1,7 +1,7 @@
 -- What the file system's values are to its machine, and when it comes up.
 -- Assumes nothing.
 use Rattle.std.specs.Prelude.{◌≡◌, ℕ, ◌+◌, ◌*◌, ◌≤◌, Bool, cond, Some, None, Ok, Err, Option, Result, nat_lt}
-use Rattle.std.specs.Borrow.{Bor}
+use Rattle.std.specs.Borrow.{MutBor}
 use Rattle.device.specs.Flow.{Runs}
 use Rattle.device.specs.Plays.{Asked, Told, Plays}
 use Rattle.paging.specs.Layout.{numbers, last_node}
@@ -33,7 +33,7 @@ up_reads size known = cond known (last_node size + 1) 1
 
 -- a store that is lent to a cache
 abbrev pub OnStore : Type 0 → Type 0
-OnStore D = Cached (Bor (Store D))
+OnStore D = Cached (MutBor (Store D))
 
 abbrev pub device_below : {D : Type 0} → OnStore D → D
 device_below c = (store_below c).device
@@ -51,7 +51,7 @@ abbrev pub mem_of : {D : Type 0} (frames : ℕ) → FileSystem D → (machine fr
 mem_of frames f = record { below = pages_mem frames f.pages.now; above = files_of f }
 
 -- what a call of the store, and one of the cache on it, does by its contract
-abbrev pub StoreGoes : {D : Type 0} → (D → (c : Asked) → Told c → D → Type 0) → Bor (Store D) → (c : PageCall) → pages.Told c → Bor (Store D) → Type 0
+abbrev pub StoreGoes : {D : Type 0} → (D → (c : Asked) → Told c → D → Type 0) → MutBor (Store D) → (c : PageCall) → pages.Told c → MutBor (Store D) → Type 0
 StoreGoes steps s c r t = Runs steps (store_flow c (stored_of s.now)) s.now.device t.now.device (r, stored_of t.now)
 
 abbrev pub CacheGoes : {D : Type 0} → (D → (c : Asked) → Told c → D → Type 0) → OnStore D → (c : PageCall) → pages.Told c → OnStore D → Type 0
