@@ -223,7 +223,7 @@ fn live(
     let mut cache = Cached::new(store, 0, &mut lent.frames);
     match FileSystem::open(&mut cache, sectors, &mut lent.work) {
         Ok(mut files) => answer_all(rt, stage, &mut files, watch, &first),
-        Err(e) => Err(why(e).into()),
+        Err(e) => Err(anyhow!(why(e))),
     }
 }
 

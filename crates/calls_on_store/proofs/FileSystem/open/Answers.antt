@@ -24,7 +24,7 @@ returns g c =
     let e : label ≡ cond known told blank_label =
     elim c.if-not-known.branch [ then-not-known w ↦ w.label-is ∙ rw w.if-not-known.true | else-not-known w ↦ w.label-is ∙ rw w.if-not-known.false ]
     in (
-      no-fault sectors (length c.args.work.now) (words_of (store_below before)) c.if-work-lt-WORK-PAGES.false fine,
+      no-fault sectors (length c.args.work.now) (words_of (store_below before)) c.if-work-lt-WORK_PAGES.false fine,
       plays-open steps (frames_of before) sectors c.in-Ok.reads (device_below before) up after (record { known = known; label = label }) ran bare (up-runs steps up after known told label c.label-known.ensures e),
       up-told steps sectors c.in-Ok.reads (device_below before) up after known told ran c.label-known.ensures,
     )
