@@ -1,4 +1,6 @@
 // What the page store costs, in sectors and device syncs: counts are printed, and compared in the gate; times go to standard error.
+#![tactic(auto)]
+
 use anyhow::anyhow;
 use cache::cached::Cached;
 use device::Device;

@@ -1,18 +1,18 @@
 -- Writing frames back: they find room, and what is shown above stays as it is.
 -- Assumes nothing.
-use Rattle.std.proofs.Common.{◌≡◌, ℕ, suc, ◌+◌, ◌<◌, ◌≤◌, Bool, true, false, cond, not, ◌&&◌, eqb, ltb, leb, ◌⊎◌, List, Some, None, sym, refl, ap, ◌∙◌, subst, inl, inr, arith}
-use Rattle.std.proofs.lemmas.Bool.{cases_eq, both_ways, leb-true, leb-false, ltb-true, ltb-false, ne_eqb}
+use Rattle.std.proofs.Common.{◌≡◌, ℕ, suc, ◌+◌, ◌<◌, ◌≤◌, Bool, true, false, cond, not, ◌&&◌, eqb, ltb, leb, ◌⊎◌, List, None, sym, refl, ap, ◌∙◌, subst, inl, inr, arith}
+use Rattle.std.proofs.lemmas.Bool.{cases_eq, both_ways, leb-false, ltb-true, ne_eqb}
 use Rattle.device.specs.Plays.{plan_of}
 use Rattle.paging.specs.Layout.{one}
 use Rattle.paging.specs.Pages.{PageReply, Said}
-use Rattle.paging.specs.Judge.{State, is_blank, set_at, after_put, CanPut, PutAnswers, put_price}
+use Rattle.paging.specs.Judge.{State, is_blank, after_put, CanPut, PutAnswers, put_price}
 use Rattle.paging.proofs.Store.{not-both}
 use Rattle.caching.specs.Frames.{Cache, clean, frame_at, tag_at, with_tag, turned, holds, find, marks}
 use Rattle.caching.specs.Cache.{write_back, flush, evict, frame_for, make_room}
 use Rattle.caching.specs.Tie.{Only, Shows, Still, CacheOn}
 use Rattle.caching.proofs.Logic.{planned, Wp, wp-more, wp-cond, wp-some, wp-then, wp-turns, wp-put}
 use Rattle.caching.proofs.Frames.{find-some, find_none, one-yes, one-no, some-marked, no-marked, holds-own, holds-other}
-use Rattle.caching.proofs.Ties.{set_there, set_else, Agree, agree, Lone, lone-found, only-there, beside, Tagged, tagged-tag, tie-tagged}
+use Rattle.caching.proofs.Ties.{set_there, set_else, agree, Lone, lone-found, only-there, beside, Tagged, tagged-tag, tie-tagged}
 
 -- while something is left, a put below is done and reads nothing
 pub some_left : (z : ℕ) (s : State) → 0 < s.left → put_price z s ≡ 0

@@ -1,23 +1,23 @@
 -- Each call of the cache is answered as the judge allows, within its price.
 -- Assumes nothing.
-use Rattle.std.proofs.Common.{◌≡◌, ℕ, zero, suc, ◌+◌, ◌-◌, ◌*◌, ◌%◌, ◌^◌, ◌<◌, ◌≤◌, Bool, true, false, cond, not, ◌&&◌, T, eqb, ltb, ◌⊎◌, List, length, Some, None, Option, sym, refl, ap, ◌∙◌, subst, subst₂, inl, inr, arith}
-use Rattle.std.proofs.lemmas.Bool.{cases_eq, cases_Bool, both_ways, false≢true, and_parts, and_cases, eqb-true, eqb-false, ltb-true, ltb-false, eq-eqb, ne_eqb}
+use Rattle.std.proofs.Common.{◌≡◌, ℕ, suc, ◌+◌, ◌-◌, ◌*◌, ◌%◌, ◌^◌, ◌<◌, ◌≤◌, Bool, true, false, cond, not, ◌&&◌, T, eqb, ltb, ◌⊎◌, List, length, Some, None, Option, sym, refl, ap, ◌∙◌, subst, subst₂, inl, inr, arith}
+use Rattle.std.proofs.lemmas.Bool.{cases_eq, both_ways, false≢true, and_parts, and_cases, eqb-true, eqb-false, ltb-true, ltb-false, eq-eqb, ne_eqb}
 use Rattle.device.specs.Sectors.{all_bytes}
 use Rattle.device.specs.Layer.{Plan, gives, asks}
-use Rattle.device.specs.Flow.{Turn, on, out}
+use Rattle.device.specs.Flow.{on, out}
 use Rattle.device.specs.Plays.{plan_of, if_some}
 use Rattle.device.specs.Priced.{CutIn}
 use Rattle.paging.specs.Layout.{one, numbers, rooms}
-use Rattle.paging.specs.Pages.{PageCall, Get, Put, PutVolatile, PutThrough, Volatile, Spare, Left, Label, Sync, Told, PageReply, Page, Said, Number, Labelled, Synced, replied, told_in, page_in, said_in, number_in, label_in, blank_page, same_bytes}
+use Rattle.paging.specs.Pages.{PageCall, Get, Put, PutVolatile, PutThrough, Volatile, Spare, Left, Label, Sync, Told, PageReply, Page, Said, Number, Synced, replied, told_in, page_in, said_in, number_in, label_in, blank_page, same_bytes}
 use Rattle.paging.specs.Judge.{State, is_blank, lasting, set_at, live, used, after_put, CanPut, CannotPut, Crowded, Putting, PutAnswers, with_left, Answers, still, Down, kept, put_price, price}
 use Rattle.paging.proofs.Store.{not-both, put-answers}
 use Rattle.paging.proofs.Calls.{answers-put}
 use Rattle.caching.specs.Frames.{Cache, free, clean, marked, frame_at, tag_at, with_tag, filled, holds, find, marks, is_marked, dropped}
 use Rattle.caching.specs.Cache.{can_put, stays, passed, put_with, put, through_with, spare_turn, spare_after, cache_flow}
-use Rattle.caching.specs.Tie.{Only, Shows, Still, CacheOn, CacheOff}
+use Rattle.caching.specs.Tie.{Shows, Still, CacheOn, CacheOff}
 use Rattle.caching.proofs.Logic.{planned, Wp, wp-more, wp-cond, wp-some, wp-then, Turned, wp-loop, wp-put}
 use Rattle.caching.proofs.Frames.{find-some, find_none, one-yes, one-no, not-marked, page-held, holds-own, holds-other, frame-there}
-use Rattle.caching.proofs.Ties.{set_there, set_else, Agree, agree, agrees, Lone, lone-found, only-there, beside, Tagged, tagged-tag, tagged-fill, tie-tagged, tie-states, all-now, all-volatile}
+use Rattle.caching.proofs.Ties.{set_there, set_else, Agree, agree, agrees, lone-found, only-there, beside, Tagged, tagged-tag, tagged-fill, tie-tagged, tie-states, all-now, all-volatile}
 use Rattle.caching.proofs.Back.{Wrote, Ready, Newer, newer, flushes, makes-room, evicts-for, frames-for}
 
 -- A CUT leaves the same above as below

@@ -1,11 +1,11 @@
 -- Frames: which has a page, how many are marked, and one that changes.
 -- Assumes nothing.
-use Rattle.std.proofs.Common.{◌≡◌, ℕ, zero, suc, ◌+◌, ◌<◌, ◌≤◌, Bool, true, false, cond, ◌&&◌, eqb, ◌⊎◌, List, length, get_or, set, Some, None, Option, sym, refl, ap, ◌∙◌, inl, inr, arith, length-set, get_or-set_other, get_or-set_same}
-use Rattle.std.proofs.lemmas.Bool.{cases_eq, cases_Bool, false≢true, eqb-true, and_parts, and_from, and_right, eq-eqb, ne_eqb}
+use Rattle.std.proofs.Common.{◌≡◌, ℕ, zero, suc, ◌+◌, ◌<◌, ◌≤◌, Bool, true, false, cond, eqb, List, length, get_or, set, Some, None, Option, sym, refl, ap, ◌∙◌, inl, inr, arith, get_or-set_other, get_or-set_same}
+use Rattle.std.proofs.lemmas.Bool.{cases_eq, cases_Bool, eqb-true, and_parts, and_from, and_right, eq-eqb, ne_eqb}
 use Rattle.device.specs.Plays.{if_some}
 use Rattle.paging.specs.Layout.{one}
 use Rattle.caching.specs.declared.Tag.{Tag}
-use Rattle.caching.specs.Frames.{Cache, free, clean, marked, frame_at, tag_at, with_tag, filled, holds, find_tag, find, count_marked, marks, is_marked}
+use Rattle.caching.specs.Frames.{Cache, free, frame_at, tag_at, with_tag, filled, holds, find_tag, find, count_marked, marks, is_marked}
 
 -- options
 some_is : {A : Type 0} {x y : A} → ◌≡◌ {A = Option A} (Some x) (Some y) → x ≡ y

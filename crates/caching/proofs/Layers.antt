@@ -1,11 +1,11 @@
 -- The cache as a layer.
 -- Assumes nothing.
-use Rattle.std.proofs.Common.{◌≡◌, ℕ, ◌+◌, ◌<◌, ◌≤◌, min, Bool, true, false, cond, not, ◌&&◌, eqb, ltb, List, ◌∷◌, length, replicate, Some, None, Option, sym, refl, ap, ◌∙◌, subst, arith}
+use Rattle.std.proofs.Common.{◌≡◌, ℕ, ◌<◌, ◌≤◌, Bool, true, false, List, ◌∷◌, length, refl, ap, subst, arith}
 use lib.ListN.{length-replicate, get_or-replicate}
 use Rattle.std.proofs.lemmas.Bool.{lt-ltb, ne_eqb, both_ways}
 use Rattle.device.specs.Machine.{Machine, Event, cut_in, Judge, Allowed}
 use Rattle.device.specs.Layer.{Layer, Plan, gives, asks, Comes, CutShort, Stand, down, up, Above, KeepsAbove}
-use Rattle.device.specs.Plays.{plan_of, plan_then, if_some}
+use Rattle.device.specs.Plays.{plan_of, plan_then}
 use Rattle.device.specs.Priced.{CutIn, spent, PricedLayer}
 use Rattle.device.proofs.Layers.{layers_compose_lem, within_over_lem}
 use Rattle.device.proofs.Prices.{keeps, within, tied, priced-over}
@@ -13,11 +13,11 @@ use Rattle.paging.specs.Layout.{numbers}
 use Rattle.paging.specs.Pages.{PageCall, Get, PageReply, replied, told_in, page_in, blank_page}
 use Rattle.paging.specs.Judge.{State, kept, price}
 use Rattle.paging.proofs.Store.{priced}
-use Rattle.caching.specs.Frames.{Cache, free, clean, marked, fresh, frame_at, tag_at, with_tag, filled, turned, holds, find, marks}
-use Rattle.caching.specs.Cache.{stays, put_below, cache_layer}
-use Rattle.caching.specs.Tie.{Shows, Still, CacheOn, CacheOff}
+use Rattle.caching.specs.Frames.{Cache, free, clean, fresh, frame_at, tag_at, with_tag, filled, turned, holds, marks}
+use Rattle.caching.specs.Cache.{put_below, cache_layer}
+use Rattle.caching.specs.Tie.{Shows, CacheOn, CacheOff}
 use Rattle.caching.specs.Promise.{CacheKept, OverAny, OverStore, Hits, Misses, put_of, Stays}
-use Rattle.caching.proofs.Logic.{planned, Wp, wp-more, wp-then, wp-comes, wp-cut}
+use Rattle.caching.proofs.Logic.{planned, Wp, wp-then, wp-comes, wp-cut}
 use Rattle.caching.proofs.Frames.{no-marked}
 use Rattle.caching.proofs.Calls.{fell, Falls, Ended, call_ok}
 

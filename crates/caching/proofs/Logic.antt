@@ -2,10 +2,10 @@
 -- Assumes nothing.
 use Rattle.std.proofs.Common.{◌≡◌, ℕ, zero, suc, ◌+◌, ◌<◌, ◌≤◌, Bool, true, false, cond, List, Some, None, Option, refl, arith}
 use Rattle.device.specs.Layer.{Plan, gives, asks, Comes, CutShort}
-use Rattle.device.specs.Flow.{Flow, Turn, on, out, go, past, turns, tries, loop}
+use Rattle.device.specs.Flow.{Turn, on, out, go, past, turns, tries, loop}
 use Rattle.device.specs.Plays.{plan_of, plan_then, if_some}
 use Rattle.device.specs.Priced.{spent}
-use Rattle.paging.specs.Pages.{PageCall, PageReply, Put, PutVolatile, page_replies, told_in, said_in}
+use Rattle.paging.specs.Pages.{PageCall, PageReply, page_replies, told_in, said_in}
 use Rattle.paging.specs.Judge.{State, Putting, PutAnswers, Answers, Down, kept, price, put_price}
 use Rattle.paging.proofs.Store.{put-answers}
 use Rattle.caching.specs.Cache.{OnPages, put_below}

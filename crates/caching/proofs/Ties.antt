@@ -1,12 +1,12 @@
 -- How the tie is kept when one frame changes.
 -- Assumes nothing.
-use Rattle.std.proofs.Common.{◌≡◌, ℕ, ◌+◌, ◌<◌, ◌≤◌, Bool, true, false, ◌⊎◌, List, length, sym, refl, ap, ◌∙◌, inl, inr, arith, length-set}
+use Rattle.std.proofs.Common.{◌≡◌, ℕ, ◌+◌, ◌<◌, ◌≤◌, true, false, ◌⊎◌, List, length, sym, refl, ap, ◌∙◌, inl, inr, arith, length-set}
 use mathlib.Core.Path.{fun_ext}
 use Rattle.std.proofs.lemmas.Bool.{cases_eq, cases_Bool, both_ways, eq-eqb, ne_eqb}
 use Rattle.paging.specs.Layout.{one}
 use Rattle.paging.specs.Judge.{State, set_at}
 use Rattle.caching.specs.declared.Tag.{Tag}
-use Rattle.caching.specs.Frames.{Cache, frame_at, tag_at, with_tag, filled, holds, marks}
+use Rattle.caching.specs.Frames.{Cache, tag_at, with_tag, filled, holds, marks}
 use Rattle.caching.specs.Tie.{Only, Shows, Still, CacheOn}
 use Rattle.caching.proofs.Frames.{Beside, tag-beside, fill-beside, tag-there, marks-set, unmarked}
 

@@ -1,6 +1,6 @@
 -- The cache of pages, as the code runs it, and the layer that it is.
 -- Assumes nothing.
-use Rattle.std.specs.Prelude.{ℕ, suc, ◌+◌, ◌-◌, ◌%◌, ◌^◌, Bool, true, false, not, ◌&&◌, List, length, ◌==◌, nat_lt}
+use Rattle.std.specs.Prelude.{ℕ, ◌+◌, ◌-◌, ◌%◌, ◌^◌, Bool, true, false, not, ◌&&◌, List, length, ◌==◌, nat_lt}
 use Rattle.device.specs.Sectors.{all_bytes}
 use Rattle.device.specs.Layer.{Layer, gives}
 use Rattle.device.specs.Flow.{Flow, answer, ask, when, given, first, lt, le, eq, is, Turn, on, out, turns, loop}

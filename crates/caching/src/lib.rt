@@ -1,4 +1,6 @@
 // Pages kept in frames of memory, over any pages, and written back at a sync: the mathematics. The definitions are in specs/; here are its theorems, each the contract of a function.
+#![tactic(auto)]
+
 ghost use Rattle.device.specs.Machine.{Machine};
 ghost use Rattle.paging.specs.Pages.{PageCall, PageReply};
 ghost use Rattle.caching.specs.Promise.{CacheKept, OverAny, OverStore, Hits, Misses, Stays};

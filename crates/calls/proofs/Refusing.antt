@@ -1,14 +1,13 @@
 -- The machine that refuses every call keeps the promise.
 -- Assumes nothing.
-use Rattle.std.proofs.Common.{ℕ, ◌+◌, ◌*◌, ◌≤◌, false, List, [], ◌∷◌, refl, arith}
+use Rattle.std.proofs.Common.{ℕ, false, List, refl, arith}
 use mathlib.Core.List.{Memᴰ}
-use Rattle.device.specs.Sectors.{Device}
 use Rattle.device.specs.Program.{reads_of, run, Fair}
-use Rattle.device.specs.Machine.{Keeps, Within, Event, World, off, on, Trace, Allowed}
+use Rattle.device.specs.Machine.{Event, World, Trace, Allowed}
 use Rattle.model.specs.Tree.{Fs, blank, swept}
 use Rattle.model.specs.Calls.{Call, Reply, State, fresh}
 use Rattle.model.specs.Answers.{Down, leaves, not_yet}
-use Rattle.calls.specs.Promise.{files, ComesUpSoon, CallsBounded, Whole, deepest}
+use Rattle.calls.specs.Promise.{files, Whole}
 use Rattle.calls.specs.Files.{built, machine}
 
 -- a state that may be after the events, and a tree that a cut may leave

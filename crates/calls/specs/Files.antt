@@ -1,6 +1,6 @@
 -- The machine of the file system.
 -- Assumes nothing.
-use Rattle.std.specs.Prelude.{ℕ, Bool, false, List}
+use Rattle.std.specs.Prelude.{Bool, false}
 use Rattle.device.specs.Program.{answer}
 use Rattle.device.specs.Machine.{Machine}
 use Rattle.model.specs.Calls.{Call, Reply, No}

@@ -1,4 +1,6 @@
 // The file system: it comes up on a device with lent memory, and answers calls.
+#![tactic(auto)]
+
 ghost use Rattle.std.specs.Prelude.{◌≡◌, length};
 ghost use Rattle.device.specs.Plays.{Plays};
 ghost use Rattle.model.specs.Of.{call_of, reply_of};

@@ -8,13 +8,12 @@ use Rattle.device.specs.Plays.{io_of, plan_of, plan_then}
 use Rattle.device.proofs.Programs.{run-then}
 use Rattle.device.proofs.Sums.{reads_then_lem, reads-named}
 use Rattle.device.proofs.Layers.{run-named}
-use Rattle.paging.specs.Layout.{numbers, last_node}
+use Rattle.paging.specs.Layout.{last_node}
 use Rattle.paging.specs.Pages.{replied, told_in, page_replies}
 use Rattle.paging.specs.Sectors.{root_known, label_at}
 use Rattle.paging.specs.Memory.{Mem, bare, took}
 use Rattle.paging.specs.Store.{Stored, shut, open_flow, nodes_flow, store_flow, store}
 use Rattle.paging.proofs.Few.{up-soon}
-use Rattle.caching.specs.Frames.{Cache}
 use Rattle.caching.specs.Cache.{cache_flow, cache_layer}
 use Rattle.calls_on_store.specs.Files.{up_flow, pages_below, machine}
 use Rattle.calls_on_store.specs.Of.{up_reads}

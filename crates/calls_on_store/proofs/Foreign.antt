@@ -1,6 +1,6 @@
 -- On a card of another form every call is refused.
 -- Assumes nothing.
-use Rattle.std.proofs.Common.{◌≡◌, ℕ, Bool, false, sym, refl, ap, ◌∙◌, subst}
+use Rattle.std.proofs.Common.{◌≡◌, ℕ, false, sym, refl, ap, ◌∙◌}
 use Rattle.device.specs.Sectors.{Device, shown}
 use Rattle.device.specs.Program.{Io, Ran, answer, run, and_then}
 use Rattle.device.specs.Layer.{through}
@@ -15,7 +15,7 @@ use Rattle.model.specs.Calls.{Call, No}
 use Rattle.calls_on_store.specs.Promise.{RefusesForeign}
 use Rattle.caching.specs.Frames.{fresh}
 use Rattle.caching.specs.Cache.{cache_flow, cache_layer}
-use Rattle.calls_on_store.specs.Files.{files_layer, up_flow, pages_below, machine}
+use Rattle.calls_on_store.specs.Files.{up_flow, pages_below, machine}
 
 abbrev refusing : (size frames : ℕ) → (machine frames).Mem
 refusing size frames = record { below = record { below = shut; above = fresh (numbers size) frames }; above = record { known = false; label = blank_label } }

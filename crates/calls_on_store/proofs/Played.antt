@@ -1,6 +1,6 @@
 -- What the code asks of the store is what the machine does on the device.
 -- Assumes nothing.
-use Rattle.std.proofs.Common.{◌≡◌, ℕ, ◌+◌, ◌*◌, ◌≤◌, Bool, true, false, cond, ltb, List, Some, None, Option, sym, refl, ap, ◌∙◌, arith, MutBor}
+use Rattle.std.proofs.Common.{◌≡◌, ℕ, ◌*◌, ◌≤◌, Bool, true, false, cond, ltb, List, Some, None, Option, sym, refl, ap, ◌∙◌, arith, MutBor}
 use mathlib.Core.Path.{subst⁻¹}
 use Rattle.std.proofs.lemmas.Bool.{le-ltb}
 use Rattle.device.specs.Program.{Io, and_then}
@@ -30,7 +30,7 @@ use Rattle.caching.specs.Cache.{cache_flow}
 use Rattle.cache.specs.Serving.{cache_of}
 use Rattle.cache.specs.Opening.{store_below}
 use Rattle.calls_on_store.specs.Files.{built, FilesMem, up_flow, call_flow, pages_below, machine}
-use Rattle.calls_on_store.specs.Of.{OnStore, device_below, pages_mem, StoreGoes, CacheGoes, open_fault, up_reads}
+use Rattle.calls_on_store.specs.Of.{OnStore, device_below, pages_mem, CacheGoes, open_fault, up_reads}
 use Rattle.calls_on_store.specs.declared.OpenError.TheVariants.{TooFewSectors, TooManySectors, TooFewWords}
 
 module _ {D : Type 0} (steps : D → (c : Asked) → Told c → D → Type 0) (frames : ℕ) where

@@ -1,11 +1,11 @@
 -- The layer that syncs and refuses all else is right above the judge of pages.
 -- Assumes nothing.
-use Rattle.std.proofs.Common.{◌≡◌, ℕ, ◌+◌, ◌≤◌, Bool, true, false, cond, not, T, ◌⊎◌, List, [], ◌∷◌, length, Some, None, Option, sym, refl, ap, ◌∙◌, subst, inl, inr, arith}
+use Rattle.std.proofs.Common.{◌≡◌, ℕ, ◌≤◌, Bool, true, false, cond, not, T, List, length, Some, refl, ap, inl, inr, arith}
 use mathlib.Core.List.Memᴰ
 use Rattle.std.proofs.lemmas.Bool.{false≢true}
 use Rattle.device.specs.Sectors.{all_bytes}
 use Rattle.device.specs.Layer.{Plan, gives, asks, Comes, CutShort}
-use Rattle.device.specs.Plays.{plan_of, plan_then, if_some}
+use Rattle.device.specs.Plays.{plan_of, plan_then}
 use Rattle.device.specs.Priced.{CutIn, spent, PricedLayer}
 use Rattle.paging.specs.Pages.{PageCall, PageReply, Label, told_in}
 use Rattle.paging.specs.Pages as pages
@@ -15,7 +15,7 @@ use Rattle.model.specs.Tree.{blank, swept, keep}
 use Rattle.model.specs.Calls.{Call, Open, Close, Read, Write, Resize, Stat, StatOpen, MakeFolder, Remove, RemoveFolder, NextName, Rename, Join, MakeLink, ReadLink, Sync, Reply, No, Done, State, fresh, does}
 use Rattle.model.specs.Answers.{Answers, Down, leaves, as-meant, not_yet}
 use Rattle.calls_on_store.specs.Promise.{files, Whole}
-use Rattle.calls_on_store.specs.Files.{built, FilesMem, up_flow, call_flow, files_layer, machine}
+use Rattle.calls_on_store.specs.Files.{built, FilesMem, up_flow, files_layer, machine}
 use Rattle.calls_on_store.proofs.Wholly.{wholly}
 
 abbrev LabelOk : List ℕ → Type 0

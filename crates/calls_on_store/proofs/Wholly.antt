@@ -1,7 +1,6 @@
 -- A layer on the cache and the store that is right above its judge, at prices within the bounds, keeps the whole promise.
 -- Assumes nothing.
 use Rattle.std.proofs.Common.{ℕ, ◌+◌, ◌*◌, ◌≤◌, Bool, arith}
-use Rattle.device.specs.Machine.{Judge}
 use Rattle.device.specs.Layer.{Layer, over}
 use Rattle.device.specs.Priced.{PricedLayer}
 use Rattle.device.proofs.Prices.{keeps, within, tied, priced-over}

@@ -1,6 +1,6 @@
 -- What the file system's values are to its machine, and when it comes up.
 -- Assumes nothing.
-use Rattle.std.specs.Prelude.{◌≡◌, ℕ, ◌+◌, ◌*◌, ◌≤◌, Bool, cond, Some, None, Ok, Err, Option, Result, nat_lt}
+use Rattle.std.specs.Prelude.{◌≡◌, ℕ, ◌+◌, ◌*◌, Bool, cond, Some, None, Ok, Err, Option, Result, nat_lt}
 use Rattle.std.specs.Borrow.{MutBor}
 use Rattle.device.specs.Flow.{Runs}
 use Rattle.device.specs.Plays.{Asked, Told, Plays}

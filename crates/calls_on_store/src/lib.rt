@@ -1,4 +1,6 @@
 // The file system: it comes up on a store of pages with a cache over it, and answers calls.
+#![tactic(auto)]
+
 ghost use Rattle.std.specs.Prelude.{◌≡◌, ℕ, length};
 ghost use Rattle.device.specs.Flow.{Runs};
 ghost use Rattle.device.specs.Plays.{Plays};

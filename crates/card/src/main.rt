@@ -1,4 +1,6 @@
 // Opens the file `card` as a card, reads lines, makes calls and prints the answers.
+#![tactic(auto)]
+
 mod host;
 
 use anyhow::anyhow;

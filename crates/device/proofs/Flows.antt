@@ -1,12 +1,12 @@
 -- Code that runs a flow plays the program that the flow is, and follows the plan.
 -- Assumes nothing.
-use Rattle.std.proofs.Common.{◌≡◌, ℕ, ◌<◌, ◌≤◌, Bool, true, false, cond, List, Some, None, Option, sym, refl, ap, subst, arith}
+use Rattle.std.proofs.Common.{◌≡◌, true, false, Some, None, refl, subst}
 use mathlib.Core.Path.{subst⁻¹}
 use Rattle.std.proofs.lemmas.Bool.{ltb-true, ltb-false, leb-true, leb-false, eqb-true, eqb-false, cond_both}
 use Rattle.device.specs.Program.{Io}
-use Rattle.device.specs.Layer.{Plan, gives, asks}
+use Rattle.device.specs.Layer.{Plan, gives}
 use Rattle.device.specs.Flow.{Test, lt, le, eq, is, Holds, Fails, Flow, answer, ask, when, given, first, Runs}
-use Rattle.device.specs.Plays.{Asked, Read, Write, Sync, Told, Plays, Follows, decide, if_some, io_of, Replies, plan_then, plan_of, among, Flowing, FlowPlays}
+use Rattle.device.specs.Plays.{Asked, Read, Write, Sync, Told, Plays, Follows, decide, io_of, Replies, plan_then, plan_of, among, Flowing, FlowPlays}
 use Rattle.device.proofs.Plays.{plays-then}
 
 -- what a test decides is what holds or fails

@@ -1,10 +1,10 @@
 -- A layer on a machine: each of its traces is one of the machine below, and what a judge allows of that is what the layer may meet.
 -- Assumes nothing.
-use Rattle.std.proofs.Common.{◌≡◌, ℕ, ◌≤◌, ◌⊎◌, List, [], ◌∷◌, sym, refl, ap, ◌∙◌, subst, inl, inr}
+use Rattle.std.proofs.Common.{◌≡◌, ℕ, List, [], ◌∷◌, sym, refl, ap, ◌∙◌, subst, inl, inr}
 use Rattle.device.specs.Sectors.{Device, AfterCut}
 use Rattle.device.specs.Program.{Io, answer, Ran, run, Upto, Fair, and_then}
-use Rattle.device.specs.Machine.{Machine, Event, called, cut_in, cut_between, cut_opening, World, off, on, Trace, Judge, Allowed, Keeps, Within}
-use Rattle.device.specs.Layer.{Plan, gives, asks, Layer, through, over, Comes, CutShort, Stand, down, up, Above, KeepsAbove, LayersCompose, WithinOver}
+use Rattle.device.specs.Machine.{Machine, Event, called, cut_in, cut_between, cut_opening, World, off, on, Trace, Judge, Allowed}
+use Rattle.device.specs.Layer.{Plan, gives, asks, Layer, through, over, Comes, CutShort, down, up, Above, LayersCompose, WithinOver}
 use Rattle.device.specs.Reads.{asked}
 use Rattle.device.proofs.Programs.{run-then, cut-then, at-end, whole, fair-then}
 

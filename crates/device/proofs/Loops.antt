@@ -1,6 +1,6 @@
 -- Loops of a flow: what a loop's invariant says, and its steps; and the two ways through a test.
 -- Assumes nothing.
-use Rattle.std.proofs.Common.{◌≡◌, ℕ, zero, suc, ◌+◌, ◌-◌, ◌<◌, ◌≤◌, Bool, true, false, Some, None, Option, refl, suc-add, zero-add, add-one, arith}
+use Rattle.std.proofs.Common.{◌≡◌, ℕ, zero, suc, ◌+◌, ◌-◌, ◌<◌, true, false, Some, None, Option, refl, suc-add, zero-add, add-one, arith}
 use borrow.Author.Tests.{both_ways}
 use Rattle.device.specs.Flow.{Test, lt, le, eq, is, Holds, Fails, Flow, Runs, Turn, on, out, turns, tries, loop}
 

@@ -1,6 +1,6 @@
 -- The device in memory: what a write, a sync and an undone write make of its view, and what is played on it.
 -- Assumes nothing.
-use Rattle.std.proofs.Common.{◌≡◌, ℕ, ◌<◌, Bool, true, false, cond, eqb, ◌⊎◌, List, [], ◌∷◌, ◌++◌, length, get_or, set, replicate, sym, refl, ap, ◌∙◌, subst, subst₂, inl, inr, ⊎_elim, get_or-set_other, get_or-set_same, eq-eqb, ne_eqb}
+use Rattle.std.proofs.Common.{◌≡◌, ℕ, ◌<◌, true, false, cond, eqb, ◌⊎◌, List, [], ◌∷◌, ◌++◌, length, get_or, set, replicate, sym, refl, ap, ◌∙◌, subst, subst₂, inl, inr, ⊎_elim, get_or-set_other, get_or-set_same, eq-eqb, ne_eqb}
 use mathlib.Core.Path.{subst₃}
 use mathlib.Core.List.Memᴰ
 use mathlib.Core.List.{Memᴰ}

@@ -1,11 +1,11 @@
 -- What is played on a device: joined, through a store, and on an honest device.
 -- Assumes nothing.
-use Rattle.std.proofs.Common.{◌≡◌, ℕ, List, [], ◌∷◌, sym, refl, ap, ◌∙◌, subst, subst₂}
-use Rattle.device.specs.Sectors.{Device, shown, written, synced}
+use Rattle.std.proofs.Common.{◌≡◌, ◌∷◌, refl, subst, subst₂}
+use Rattle.device.specs.Sectors.{shown, written, synced}
 use Rattle.device.specs.Program.{Io, answer, read, write, sync, run, and_then}
-use Rattle.device.specs.Machine.{Machine, Event, called, World, off, on, Trace}
-use Rattle.device.specs.Layer.{Plan, gives, asks, Layer, through, over}
-use Rattle.device.specs.Plays.{Asked, Read, Write, Sync, Told, Plays, Follows, Store, PlaysCalls, PlaysThrough, PlaysOver, stacked, honest, HonestRuns, HonestPlays, PlaysTrace, Showing, ShownRuns}
+use Rattle.device.specs.Machine.{Machine, called, on, Trace}
+use Rattle.device.specs.Layer.{Plan, Layer, through}
+use Rattle.device.specs.Plays.{Asked, Told, Plays, Follows, Store, PlaysCalls, PlaysThrough, PlaysOver, stacked, honest, HonestRuns, HonestPlays, PlaysTrace, Showing, ShownRuns}
 
 -- one program after another
 pub plays-then : {S A B : Type 0} {steps : S → (c : Asked) → Told c → S → Type 0} {p : Io A} (f : A → Io B) {s t u : S} {a : A} {b : B} → Plays steps p s t a → Plays steps (f a) t u b → Plays steps (and_then p f) s u b

@@ -1,8 +1,8 @@
 -- One program after another: what it comes to, where it may be cut, what it touches and reads.
 -- Assumes nothing.
-use Rattle.std.proofs.Common.{◌≡◌, ℕ, zero, suc, ◌+◌, ◌*◌, ◌<◌, ◌≤◌, ◌⊎◌, List, [], ◌∷◌, sym, refl, ap, ◌∙◌, subst, inl, inr}
+use Rattle.std.proofs.Common.{◌≡◌, ℕ, ◌⊎◌, refl, inl, inr}
 use Rattle.device.specs.Sectors.{Device, shown, written, synced}
-use Rattle.device.specs.Program.{Io, answer, read, write, sync, Ran, run, Upto, Fair, reads_of, and_then}
+use Rattle.device.specs.Program.{Io, answer, read, write, sync, run, Upto, Fair, and_then}
 
 pub run-then : {A B : Type 0} (p : Io A) (f : A → Io B) (d : Device) → run (and_then p f) d ≡ run (f (run p d).value) (run p d).device
 unfolding run and_then

@@ -1,10 +1,10 @@
 -- What is read, as a sum over the calls made.
 -- Assumes nothing.
-use Rattle.std.proofs.Common.{◌≡◌, ℕ, suc, ◌+◌, ◌≤◌, List, [], ◌∷◌, sym, refl, ap, ◌∙◌, subst, arith}
+use Rattle.std.proofs.Common.{◌≡◌, ℕ, ◌+◌, ◌≤◌, List, ◌∷◌, ap, arith}
 use Rattle.device.specs.Sectors.{Device, shown, written, synced}
 use Rattle.device.specs.Program.{Io, answer, read, write, sync, run, reads_of, and_then}
-use Rattle.device.specs.Machine.{Machine, Event, called, off, on, Trace, Judge, Keeps}
-use Rattle.device.specs.Layer.{Plan, gives, asks, Layer, through, over}
+use Rattle.device.specs.Machine.{Machine, Event, called, on, Trace, Judge, Keeps}
+use Rattle.device.specs.Layer.{Plan, gives, asks, Layer, through}
 use Rattle.device.specs.Reads.{ReadsThen, asked, total, Costs, CallReads, OpenReads}
 use Rattle.device.proofs.Layers.{calls_of, went, under}
 

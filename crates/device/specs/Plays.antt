@@ -2,7 +2,7 @@
 -- Assumes nothing.
 use Rattle.std.specs.Prelude.{◌≡◌, ℕ, Bool, cond, List, ◌∷◌, Some, None, Option, ◌==◌, nat_le, nat_lt}
 use Rattle.device.specs.Sectors.{Device, shown, written, synced}
-use Rattle.device.specs.Program.{Io, run, Ran, and_then}
+use Rattle.device.specs.Program.{Io, run, and_then}
 use Rattle.device.specs.Machine.{Machine, Event, called, off, on, Trace}
 use Rattle.device.specs.Layer.{Plan, gives, asks, Layer, through, over}
 use Rattle.device.specs.Flow.{Test, lt, le, eq, is, Flow, answer, ask, when, given, first, Runs}

@@ -4,7 +4,7 @@ use Rattle.std.specs.Prelude.{ℕ, ◌+◌, ◌≤◌}
 use Rattle.device.specs.Sectors.{Device, blank_device, AfterCut}
 use Rattle.device.specs.Program.{run, Upto, Fair, reads_of}
 use Rattle.device.specs.Machine.{Machine, Judge, Keeps, Within}
-use Rattle.device.specs.Layer.{Plan, Layer, through, over, Comes, CutShort}
+use Rattle.device.specs.Layer.{Plan, Layer, over, Comes, CutShort}
 
 -- what a cut in the midst of a call may leave: the call never was, or was done
 pub data CutIn {C R : Type 0} (j : Judge C R) (c : C) (s u : j.State) : Type 0 where

@@ -4,7 +4,7 @@ use Rattle.std.specs.Prelude.{◌≡◌, ℕ, ◌+◌, ◌≤◌, List, [], ◌�
 use Rattle.device.specs.Sectors.{Device}
 use Rattle.device.specs.Program.{Io, run, reads_of, and_then}
 use Rattle.device.specs.Machine.{Machine, Event, off, on, Trace, Judge}
-use Rattle.device.specs.Layer.{Plan, Layer, over, Comes, Stand, down, up, Above}
+use Rattle.device.specs.Layer.{Plan, Layer, over, Comes, down, up, Above}
 
 -- one program after another reads what both read
 abbrev pub ReadsThen : Type 0 → Type 0 → Type 0

@@ -1,6 +1,6 @@
 -- A device of sectors, and what is left of it when the power fails.
 -- Assumes nothing.
-use Rattle.std.specs.Prelude.{◌≡◌, ℕ, Bool, true, false, cond, ◌&&◌, ◌⊎◌, List, [], ◌∷◌, replicate, ◌==◌, nat_lt}
+use Rattle.std.specs.Prelude.{◌≡◌, ℕ, Bool, true, cond, ◌&&◌, ◌⊎◌, List, [], ◌∷◌, replicate, ◌==◌, nat_lt}
 use mathlib.Core.List.{Memᴰ}
 
 -- Sectors of 512 bytes. `kept` is what a sector held when the device last answered a sync; `since` is what was written to it since then, the latest first.

@@ -1,4 +1,6 @@
 // A device of sectors, and the theory of code over one: programs, machines, layers. The definitions are in specs/.
+#![tactic(auto)]
+
 pub mod memory;
 pub mod theorems;
 

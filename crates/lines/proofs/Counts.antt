@@ -1,7 +1,6 @@
 -- How many words there are, and which stands where. Assumes nothing.
-use Rattle.std.proofs.Common.{◌≡◌, ℕ, zero, suc, ◌<◌, ◌≤◌, Bool, true, false, cond, ltb, List, [], ◌∷◌, length, get_or, Ok, Err, Result, sym, refl, ap, ◌∙◌, arith, Bor}
+use Rattle.std.proofs.Common.{◌≡◌, ℕ, zero, suc, ◌<◌, ◌≤◌, cond, ltb, List, [], ◌∷◌, length, get_or, Ok, Err, sym, refl, ap, ◌∙◌, arith, Bor}
 use Rattle.std.proofs.lemmas.Bool.{lt-ltb, le-ltb, cond-true, cond-false}
-use Rattle.lines.specs.declared.faults.Fault.{Fault}
 use Rattle.lines.specs.declared.faults.Fault.TheVariants as fault
 use Rattle.lines.specs.Arguments.{counted}
 use Rattle.lines.specs.Of.{words_in}

@@ -1,5 +1,5 @@
 -- Answers that are printed can be read back. Assumes nothing.
-use Rattle.std.proofs.Common.{◌≡◌, ℕ, ◌^◌, ◌<◌, List, [], ◌∷◌, length, get_or, codes, sym, refl, subst, arith}
+use Rattle.std.proofs.Common.{◌≡◌, ℕ, ◌^◌, ◌<◌, List, [], ◌∷◌, get_or, codes, sym, refl, subst, arith}
 use Rattle.std.proofs.ByRecursion.{All-from_get_or}
 use Rattle.model.specs.Calls.{Kind, AFile, AFolder, ALink, Reply, No, Done, Opened, Bytes, Told, Named, Full}
 use Rattle.lines.specs.declared.notations.Notation.{Notation}

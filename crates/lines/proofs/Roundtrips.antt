@@ -1,21 +1,21 @@
 -- Numbers and bytes that are printed are read back, and are one word. Assumes nothing.
-use Rattle.std.proofs.Common.{◌≡◌, ℕ, zero, suc, ◌+◌, ◌-◌, ◌*◌, ◌/◌, ◌%◌, ◌^◌, ◌<◌, ◌≤◌, Bool, true, false, cond, not, ◌&&◌, eqb, ltb, leb, ◌⊎◌, List, [], ◌∷◌, ◌++◌, length, get_or, Some, None, Ok, Err, decimal, Option, Result, sym, refl, ap, ◌∙◌, subst, inl, inr, ⊎_elim, arith, rules}
+use Rattle.std.proofs.Common.{◌≡◌, ℕ, ◌+◌, ◌-◌, ◌/◌, ◌%◌, ◌^◌, ◌<◌, ◌≤◌, Bool, true, false, cond, not, ◌&&◌, eqb, ltb, leb, ◌⊎◌, List, [], ◌∷◌, ◌++◌, length, Some, None, Ok, Err, decimal, refl, ap, ◌∙◌, inl, inr, ⊎_elim, arith, rules}
 use native.Mathlib.Nat.{div-add-mod}
-use Rattle.std.specs.Int.{is_in_range, IsInRange}
+use Rattle.std.specs.Int.{is_in_range}
 use Rattle.std.specs.Char.{is_ascii_digit}
-use Rattle.std.specs.Option.{option_map, ok_or}
+use Rattle.std.specs.Option.{option_map}
 use Rattle.std.specs.List.{AllByRecursion as All}
 use Rattle.std.specs.Str.{all_ascii_digits, bytes_eq}
 use Rattle.std.proofs.lemmas.Fmt.{decimal_nonempty, digits_decimal, digits_value-decimal}
-use Rattle.std.proofs.lemmas.Str.Parse.{IsNumeralModel, numerals_by_fold, tells_all_ascii_digits}
+use Rattle.std.proofs.lemmas.Str.Parse.{IsNumeralModel, numerals_by_fold}
 use Rattle.std.proofs.ByRecursion.{All-append}
-use Rattle.std.proofs.lemmas.Bool.{and_parts, and_from, and_left, leb-true, le-leb, lt-leb, lt-ltb, ltb-true, ltb-false, le-ltb, eq-eqb, ne_eqb, eqb-false, not-true, not-false, cond-true, cond-false, cond_both, cases_Bool}
+use Rattle.std.proofs.lemmas.Bool.{and_parts, and_from, and_left, leb-true, le-leb, lt-ltb, ltb-true, ltb-false, ne_eqb, eqb-false, not-true, cond-true, cond-false, cond_both, cases_Bool}
 use Rattle.std.proofs.lemmas.Bool.Decides.{nat_tests}
 use Rattle.lines.specs.declared.faults.Fault.TheVariants as fault
 use Rattle.lines.specs.declared.notations.Notation.{Notation}
 use Rattle.lines.specs.declared.notations.Notation.TheVariants.{Hex, Path}
 use Rattle.lines.specs.Numbers.{read_on, number_of}
-use Rattle.lines.specs.Bytes.{hex_digit, hex_pair, is_plain, byte_text, all_text, no_bytes, text_of, hex_value, of_digits, pair_value, first_pair, first_escaped, first_of, read_all, fault_of, bytes_of}
+use Rattle.lines.specs.Bytes.{hex_digit, hex_pair, is_plain, byte_text, all_text, no_bytes, text_of, hex_value, of_digits, pair_value, first_pair, first_escaped, first_of, read_all, bytes_of}
 use Rattle.lines.specs.Lines.{AreBytes, IsWord}
 use Rattle.lines.proofs.Readings.{read_more, bytes_read}
 

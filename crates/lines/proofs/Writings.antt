@@ -1,10 +1,10 @@
 -- Bytes written one after another. Assumes nothing.
-use Rattle.std.proofs.Common.{◌≡◌, ℕ, ◌+◌, ◌/◌, ◌%◌, ◌<◌, ◌≤◌, Bool, true, false, cond, eqb, ltb, List, [], ◌∷◌, ◌++◌, length, get_or, take, sym, refl, ap, ◌∙◌, append_assoc, append-nil, arith}
-use Rattle.std.proofs.lemmas.Bool.{cond_both, cond-false, ltb-true, eqb-true}
+use Rattle.std.proofs.Common.{◌≡◌, ℕ, ◌+◌, ◌<◌, ◌≤◌, true, false, eqb, ltb, List, [], ◌∷◌, ◌++◌, length, get_or, take, sym, refl, ap, ◌∙◌, append_assoc, append-nil, arith}
+use Rattle.std.proofs.lemmas.Bool.{cond_both, cond-false}
 use Rattle.std.proofs.lemmas.List.{take_more, take_all}
 use Rattle.lines.specs.declared.notations.Notation.{Notation}
-use Rattle.lines.specs.declared.notations.Notation.TheVariants.{Hex, Path}
-use Rattle.lines.specs.Bytes.{hex_digit, hex_pair, is_plain, byte_text, all_text, no_bytes, text_of}
+use Rattle.lines.specs.declared.notations.Notation.TheVariants.{Path}
+use Rattle.lines.specs.Bytes.{hex_digit, hex_pair, is_plain, byte_text, all_text, text_of}
 
 pub digit_low : (d : ℕ) → d < 16 → hex_digit d < 128
 digit_low d h = cond_both (ltb d 10) (48 + d) (87 + d) (λ x. x < 128) (λ e. omega arith) (λ e. omega arith)

@@ -16,7 +16,7 @@ use Rattle.lines.specs.Bytes.{text_of, bytes_of}
 use Rattle.lines.specs.Words.{ended, words_of}
 use Rattle.lines.specs.Verbs.{verb_word}
 use Rattle.lines.specs.Arguments.{Word}
-use Rattle.lines.specs.Asks.{Asked, Asks, Lists, Helps, Ask, parse_of}
+use Rattle.lines.specs.Asks.{Asked, Asks, Lists, Helps}
 use Rattle.lines.specs.Answers.{kind_word}
 
 abbrev pub way_word : Way → Word

@@ -1,4 +1,6 @@
 // The lines that the program `card` reads, and the text of its answers: docs/LINES.md has the grammar, specs/ says it formally.
+#![tactic(auto)]
+
 mod answers;
 mod arguments;
 mod asks;

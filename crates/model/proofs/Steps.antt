@@ -1,8 +1,8 @@
 -- Every path comes somewhere.
 -- Assumes nothing.
-use Rattle.std.proofs.Common.{◌≡◌, ℕ, zero, suc, ◌+◌, ◌-◌, ◌*◌, ◌<◌, ◌≤◌, Bool, not, ◌&&◌, ◌||◌, T, eqb, ltb, leb, List, [], ◌∷◌, ◌++◌, length, sym, refl, ap, ◌∙◌, inl, inr, arith, leb→le, length-append}
+use Rattle.std.proofs.Common.{◌≡◌, ℕ, zero, suc, ◌+◌, ◌*◌, ◌<◌, ◌≤◌, Bool, not, ◌&&◌, ◌||◌, T, eqb, ltb, leb, List, [], ◌∷◌, ◌++◌, length, sym, refl, ap, ◌∙◌, inl, inr, arith, leb→le, length-append}
 use Rattle.model.specs.Tree.{Name, Body, File, Folder, Link, Fs, every, same_name, body_at, is_folder, is_link, is_file, bytes_of, entries_of, lookup}
-use Rattle.model.specs.Walk.{Place, Wrong, Going, On, Came, components, path_ok, components_fit, dot, dot_dot, target_of, at_end, by_link, by_entry, step, steps, came, place}
+use Rattle.model.specs.Walk.{Place, Wrong, Going, On, Came, components, path_ok, components_fit, dot, dot_dot, target_of, at_end, by_link, by_entry, step, steps, came}
 use Rattle.model.specs.Laws.{Comes}
 use Rattle.model.proofs.Facts.{and-fst, and-snd, by-test, is_true, cond_yes}
 use Rattle.model.proofs.Nodes.{has-or}

@@ -5,7 +5,7 @@ use Rattle.model.specs.Tree.{Node, Fs, body_at, entries_of, is_folder, is_file, 
 use Rattle.model.specs.Calls.{Handle, State, is_open, becomes}
 use Rattle.model.specs.Sound.{is_there, handle_ok, SoundState}
 use Rattle.model.proofs.Facts.{and-fst, and-snd, and_both, or-either, or_fst, or_snd, is_true, holds, fails, tested, not-holds, same-eqb, same_or, In, in-keep, in-every, every_in, in_some}
-use Rattle.model.proofs.Nodes.{node, names-least, has_in, in-has, in_body, kept, kept-body, gone-body, kept-has, kept-rising, kept-names}
+use Rattle.model.proofs.Nodes.{names-least, has_in, in-has, in_body, kept, kept-body, gone-body, kept-has, kept-rising, kept-names}
 use Rattle.model.proofs.Entries.{Sorted, in_count}
 use Rattle.model.proofs.Good.{ents, Dir, Hung, Live, body_ok, Good, dir-or, reach_live, good-sound}
 

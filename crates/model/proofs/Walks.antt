@@ -1,6 +1,6 @@
 -- Where a path comes to, in a sound tree.
 -- Assumes nothing.
-use Rattle.std.proofs.Common.{◌≡◌, ℕ, zero, suc, ◌+◌, ◌≤◌, Bool, true, false, not, ◌&&◌, ◌||◌, T, eqb, ltb, leb, ◌⊎◌, List, [], ◌∷◌, ◌++◌, length, sym, refl, subst, inl, inr, arith, lt→ltb}
+use Rattle.std.proofs.Common.{◌≡◌, ℕ, zero, suc, ◌≤◌, Bool, true, false, not, ◌&&◌, ◌||◌, T, eqb, ltb, leb, ◌⊎◌, List, [], ◌∷◌, ◌++◌, length, sym, refl, subst, inl, inr, arith, lt→ltb}
 use Rattle.model.specs.Tree.{Name, Body, File, Folder, Link, Fs, every, same_name, body_at, is_folder, is_link, is_file, bytes_of, lookup}
 use Rattle.model.specs.Walk.{Place, Wrong, There, Missing, Going, On, Came, components, path_ok, components_fit, dot, dot_dot, target_of, start_of, at_end, by_link, by_entry, step, steps, came, place}
 use Rattle.model.specs.Sound.{name_ok}

@@ -1,7 +1,7 @@
 -- Paths: bytes cut at strokes, and where they lead.
 -- Assumes nothing.
 use Rattle.std.specs.Prelude.{ℕ, zero, suc, Bool, true, false, cond, not, ◌&&◌, ◌||◌, leb, List, [], ◌∷◌, ◌++◌, length, ◌==◌, nat_le, nat_lt}
-use Rattle.model.specs.Tree.{Name, Fs, Body, File, Folder, Link, body_at, same_name, is_folder, is_link, bytes_of, entries_of, lookup, parent_of, every}
+use Rattle.model.specs.Tree.{Name, Fs, Body, File, Folder, Link, body_at, same_name, is_folder, is_link, entries_of, lookup, parent_of, every}
 
 -- What a path comes to: a refusal by its number; a node, with the folder and the name that it was found under (empty at the top); or a name that is missing in a folder that is there.
 pub data Place : Type 0 where

@@ -1,4 +1,6 @@
 // The calls of the file system and their replies, as programs use them. What they mean stands in specs/: Tree, Walk, Calls, Answers; Of.antt ties each value here to its meaning there.
+#![tactic(auto)]
+
 pub mod laws;
 
 ghost use Rattle.std.specs.Prelude.{◌≡◌};

@@ -1,4 +1,6 @@
 // The page of a node of a B+ tree: what its bytes say, where keys stand in it, how it is made. The definitions are in specs/.
+#![tactic(auto)]
+
 pub mod build;
 pub mod laws;
 pub mod numbers;

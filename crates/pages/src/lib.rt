@@ -1,4 +1,6 @@
 // Numbered pages of 4,096 bytes on a device, all or nothing at a sync: shadow paging under one root sector. What the store is, and what is promised of it, stands in the crate `paging`; here is its code.
+#![tactic(auto)]
+
 mod fields;
 mod geometry;
 mod memory;

@@ -1,4 +1,6 @@
 // Plays random page calls on a device in memory against plain arrays, with power cuts at every asking: over the store alone, and over caches on it. A second pair of eyes, and no proof.
+#![tactic(auto)]
+
 mod expected;
 mod random;
 mod trial;

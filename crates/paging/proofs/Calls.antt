@@ -7,10 +7,10 @@ use Rattle.device.specs.Program.{Io, and_then}
 use Rattle.device.specs.Plays.{io_of}
 use Rattle.paging.specs.Layout.{one, numbers, home, rooms}
 use Rattle.paging.specs.Pages.{PageCall, Get, Put, PutVolatile, PutThrough, Volatile, Spare, Left, Label, Told, PageReply, Page, Said, Number, Labelled, replied, blank_page, same_bytes}
-use Rattle.paging.specs.Memory.{Mem, at, moved, target, find_blank}
-use Rattle.paging.specs.Store.{Stored, with_mem, read_page, write_page, place_of, put_into, put_full, put, volatile, store_flow}
-use Rattle.paging.specs.Judge.{State, is_blank, set_at, after_put, Putting, PutAnswers, CanPut, CannotPut, Crowded, Answers}
-use Rattle.paging.proofs.Coding.{same, same_self, not_same, one-le}
+use Rattle.paging.specs.Memory.{Mem, moved, target, find_blank}
+use Rattle.paging.specs.Store.{Stored, with_mem, read_page, write_page, place_of, put_into, put_full, put, store_flow}
+use Rattle.paging.specs.Judge.{State, is_blank, set_at, after_put, Putting, PutAnswers, CanPut, CannotPut, Answers}
+use Rattle.paging.proofs.Coding.{same, same_self, one-le}
 use Rattle.paging.proofs.Logic.{by-eq, Whole, Wp, wp-cond, wp-then, wp-read_page, wp-write_page}
 use Rattle.paging.proofs.Count.{one-true, many, places-few}
 use Rattle.paging.proofs.Inv.{page_at, page-ext, Uses, Safe, Up, UpIn, Runs, Ends, Cut, stays, safe-write}

@@ -5,7 +5,7 @@ use Rattle.std.proofs.lemmas.Bool.{eqb-true, eqb-false, ne_eqb, and_parts}
 use Rattle.device.specs.Sectors.{Device, shown}
 use Rattle.paging.specs.Layout.{one, numbers, last_node, leaf_of, home, rooms}
 use Rattle.paging.specs.Pages.{blank_page, same_bytes}
-use Rattle.paging.specs.Memory.{Mem, at, at_place, vacant, counts, placed, moved, durable, settled, find_down, free, target}
+use Rattle.paging.specs.Memory.{Mem, at_place, vacant, counts, placed, moved, durable, settled, find_down, free, target}
 use Rattle.paging.proofs.Logic.{by-eq}
 use Rattle.paging.proofs.Count.{count, count-ext, counts-right, count_none, count_most, find-some, find_none}
 use Rattle.paging.proofs.Inv.{page_at, Sane, Safe, Fine, Up, set-sane, set-marks}

@@ -9,7 +9,7 @@ use Rattle.device.specs.Sectors.{all_bytes}
 use Rattle.device.specs.Layer.{Plan, gives, asks, Comes, CutShort}
 use Rattle.device.specs.Priced.{CutIn, spent, PricedLayer}
 use Rattle.device.proofs.Prices.{keeps, within, priced-over}
-use Rattle.paging.specs.Layout.{one, numbers}
+use Rattle.paging.specs.Layout.{numbers}
 use Rattle.paging.specs.Pages.{PageCall, PageReply, page_in, said_in, blank_page, blank_label, same_bytes}
 use Rattle.paging.specs.Judge.{State, set_at, used, lasting, PutAnswers, CannotPut, Answers, Down, kept, price}
 use Rattle.paging.specs.Plain.{PlainCall, PlainState, PlainReply, last_of, PlainAnswers, PlainDown, plain_pages, Says, says, forwards, plain}

@@ -1,8 +1,8 @@
 -- Code that asks the store plays, on the device, what its flow does through the store's machine.
 -- Assumes nothing.
-use Rattle.std.proofs.Common.{◌≡◌, ℕ, sym, refl, subst}
+use Rattle.std.proofs.Common.{ℕ}
 use mathlib.Core.Path.{subst⁻¹}
-use Rattle.device.specs.Program.{Io, and_then}
+use Rattle.device.specs.Program.{Io}
 use Rattle.device.specs.Layer.{Plan, through}
 use Rattle.device.specs.Flow.{Flow, Runs}
 use Rattle.device.specs.Plays.{Asked, Plays, Follows, plan_of, io_of, among}

@@ -12,7 +12,7 @@ use Rattle.paging.specs.Layout.{one, numbers, inner, last_node, child, parent, l
 use Rattle.paging.specs.Pages.{Sync, Synced, replied, same_bytes, blank_page}
 use Rattle.paging.specs.Sectors.{leaf_sector, inner_sector, root_sector, place_at, bit_at, label_at, root_known}
 use Rattle.paging.specs.Memory.{Mem, vacant, durable, selected, tidied}
-use Rattle.paging.specs.Store.{Stored, holds, write_node, write_below, write_root, unchanged, sync, store_flow}
+use Rattle.paging.specs.Store.{Stored, holds, write_node, write_below, write_root, unchanged, store_flow}
 use Rattle.paging.specs.Judge.{State, live, lasting, Answers, kept}
 use Rattle.paging.proofs.Coding.{same, one-le, place-back, bit-inner, bit-root, leaf-whole, leaf-bytes, inner-whole, inner-bytes, root-whole, root-bytes, label-back, known-root}
 use Rattle.paging.proofs.Logic.{shown-same, shown-other, since-other, kept-quiet, shown-quiet, Wp, wp-cond, wp-then, wp-weaker, wp-turns}

@@ -1,6 +1,6 @@
 -- Numbered pages: what may be asked of them, and what is told.
 -- Assumes nothing.
-use Rattle.std.specs.Prelude.{◌≡◌, ℕ, Bool, true, false, cond, ◌&&◌, List, [], ◌∷◌, replicate, Some, None, Option, ◌==◌, refl}
+use Rattle.std.specs.Prelude.{◌≡◌, ℕ, Bool, true, false, ◌&&◌, List, [], ◌∷◌, replicate, None, Option, ◌==◌, refl}
 use Rattle.device.specs.Plays.{Replies}
 
 -- a page that is all zero is blank, and takes no room

@@ -1,6 +1,6 @@
 -- What the sectors of the map hold: places, selector bits, and in the root the form and the label. Numbers have their lowest byte first.
 -- Assumes nothing.
-use Rattle.std.specs.Prelude.{ℕ, zero, suc, ◌+◌, ◌*◌, ◌/◌, ◌%◌, Bool, true, false, cond, ◌&&◌, ◌||◌, List, [], ◌∷◌, ◌++◌, take, drop, replicate, ◌==◌, slice_index}
+use Rattle.std.specs.Prelude.{ℕ, zero, suc, ◌+◌, ◌*◌, ◌/◌, ◌%◌, Bool, ◌||◌, List, [], ◌∷◌, ◌++◌, take, drop, replicate, ◌==◌, slice_index}
 use Rattle.device.specs.Sectors.{blank_sector}
 use Rattle.paging.specs.Layout.{one}
 use Rattle.paging.specs.Pages.{same_bytes}

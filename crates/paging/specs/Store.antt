@@ -1,6 +1,6 @@
 -- The store: shadow paging under one root sector, as the code runs it.
 -- Assumes nothing.
-use Rattle.std.specs.Prelude.{ℕ, zero, suc, ◌+◌, ◌-◌, ◌*◌, Bool, true, false, cond, not, ◌&&◌, ◌||◌, List, [], ◌∷◌, ◌++◌, length, Some, None, Option, ◌==◌, nat_le, nat_lt}
+use Rattle.std.specs.Prelude.{ℕ, zero, suc, ◌+◌, ◌-◌, ◌*◌, Bool, true, false, cond, not, ◌&&◌, ◌||◌, List, [], ◌++◌, length, Some, None, ◌==◌, nat_le, nat_lt}
 use Rattle.std.specs.List.{between}
 use Rattle.device.specs.Sectors.{all_bytes}
 use Rattle.device.specs.Program.{Io, and_then}

@@ -1,4 +1,6 @@
 // Numbered pages on a card, all or nothing at a sync: shadow paging under one root sector. The definitions are in specs/; here are its theorems, each the contract of a function.
+#![tactic(auto)]
+
 ghost use Rattle.paging.specs.Promise.{StoreKept, PagesKept, UpSoon, CallsPriced, PlansPriced, LeftMeans, Roomy, LeavesForeign, ForeignStays, AlwaysKnown};
 
 // Any type that a plan gives.

@@ -1,4 +1,6 @@
 // Plays a script on a card in memory: calls, and power cuts in the midst of them.
+#![tactic(auto)]
+
 mod digest;
 mod listing;
 mod script;

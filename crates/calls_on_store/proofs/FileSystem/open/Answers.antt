@@ -1,8 +1,7 @@
-use Rattle.std.proofs.Common.{◌≡◌, cond, length, sym, ◌∙◌}
+use Rattle.std.proofs.Common.{◌≡◌, cond, length, ◌∙◌}
 use Rattle.paging.specs.Pages.{blank_label}
-use Rattle.pages.specs.Serving.{stored_of, words_of}
+use Rattle.pages.specs.Serving.{words_of}
 use Rattle.cache.specs.Opening.{store_below, frames_of}
-use Rattle.calls_on_store.specs.Files.{FilesMem}
 use Rattle.calls_on_store.specs.Of.{device_below}
 use Rattle.calls_on_store.proofs.Played.{no-fault, plays-open, up-runs, up-told}
 use Rattle.calls_on_store.proofs.FileSystem.open.Goals as goal

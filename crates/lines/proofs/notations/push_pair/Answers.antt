@@ -1,5 +1,4 @@
-use Rattle.std.proofs.Common.{◌/◌, ◌%◌, ◌<◌, [], ◌∷◌, sym, ap, ◌∙◌, subst, arith}
-use Rattle.lines.specs.Bytes.{hex_digit}
+use Rattle.std.proofs.Common.{◌/◌, ◌%◌, ◌<◌, [], ◌∷◌, ap, ◌∙◌, arith}
 use Rattle.lines.proofs.Writings.{digit_low, pair-pushed}
 use Rattle.lines.proofs.notations.push_pair.Goals as goal
 

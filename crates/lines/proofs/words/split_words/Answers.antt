@@ -1,4 +1,4 @@
-use Rattle.std.proofs.Common.{◌≡◌, ◌+◌, ◌-◌, ◌≤◌, [], ◌++◌, length, take, drop, vec_items, sym, refl, ap, ◌∙◌, subst, arith}
+use Rattle.std.proofs.Common.{◌+◌, ◌-◌, ◌++◌, take, drop, vec_items, ap, ◌∙◌, arith}
 use Rattle.lines.specs.Words.{cut}
 use Rattle.lines.specs.Of.{words_in}
 use Rattle.lines.proofs.Cuts.{space-turn, solid-turn, last_turn}

@@ -1,4 +1,4 @@
-use Rattle.std.proofs.Common.{◌≡◌, ◌-◌, ◌≤◌, [], ◌++◌, length, take, drop, vec_items}
+use Rattle.std.proofs.Common.{◌≡◌, ◌-◌, ◌≤◌, [], ◌++◌, take, drop, vec_items}
 use Rattle.lines.specs.Words.{cut}
 use Rattle.lines.specs.Of.{words_in}
 use Rattle.lines.proofs.words.split_words.Given as goal

@@ -1,4 +1,4 @@
-use Rattle.std.proofs.Common.{◌≡◌, ◌+◌, drop, sym, ap, ◌∙◌}
+use Rattle.std.proofs.Common.{◌+◌, drop, sym, ap, ◌∙◌}
 use Rattle.rehearse.specs.Digest.{digested}
 use Rattle.rehearse.proofs.Digests.{digested-more, digested-all}
 use Rattle.rehearse.proofs.digest.digest_on.Goals as goal

@@ -1,4 +1,4 @@
-use Rattle.std.proofs.Common.{◌≡◌, sym, refl, ap, ◌∙◌, subst, arith}
+use Rattle.std.proofs.Common.{sym, refl, ap, ◌∙◌, subst, arith}
 use Rattle.device.specs.Flow.{Runs}
 use Rattle.device.proofs.Loops.{no-try, try-on, leaves, lasts}
 use Rattle.caching.specs.Frames.{Cache, is_marked}

@@ -1,4 +1,4 @@
-use Rattle.std.proofs.Common.{◌≡◌, ℕ, sym, refl, ap, ◌∙◌}
+use Rattle.std.proofs.Common.{◌≡◌, ℕ, sym, ap, ◌∙◌}
 use Rattle.caching.specs.declared.Tag.{Tag}
 use Rattle.caching.specs.Frames.{with_tag, tag_at}
 use Rattle.caching.specs.Cache.{cache_flow}

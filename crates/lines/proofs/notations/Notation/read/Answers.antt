@@ -1,4 +1,4 @@
-use Rattle.std.proofs.Common.{◌≡◌, ◌<◌, Bool, true, false, length, Some, None, Ok, Err, vec_items, sym, ap, ◌∙◌, rules}
+use Rattle.std.proofs.Common.{◌<◌, true, false, length, None, Ok, Err, vec_items, sym, ap, ◌∙◌, rules}
 use Rattle.lines.proofs.Readings.{turn, none_read, bytes_read, read-end, read-fails}
 use Rattle.lines.proofs.Commands.{same}
 use Rattle.lines.proofs.notations.Notation.read.Goals as goal

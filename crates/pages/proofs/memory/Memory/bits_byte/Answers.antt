@@ -1,4 +1,4 @@
-use Rattle.std.proofs.Common.{◌≡◌, ℕ, ◌+◌, ◌-◌, ◌*◌, Bool, ap, ◌∙◌, arith}
+use Rattle.std.proofs.Common.{◌≡◌, ℕ, ◌+◌, ◌*◌, Bool, ap, ◌∙◌, arith}
 use Rattle.paging.specs.Layout.{one, child}
 use Rattle.paging.specs.Memory.{selected}
 use Rattle.pages.specs.Of.{seen}

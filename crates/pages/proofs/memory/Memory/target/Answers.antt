@@ -1,4 +1,3 @@
-use Rattle.std.proofs.Common.{sym, ◌∙◌}
 use Rattle.pages.specs.Of.{seen}
 use Rattle.pages.proofs.Looks.{target-own, target_free}
 use Rattle.pages.proofs.memory.Memory.target.Goals as goal
