@@ -4,7 +4,7 @@ use native.Mathlib.Nat.{div-add-mod}
 use Rattle.std.specs.Int.{is_in_range}
 use Rattle.std.specs.Char.{is_ascii_digit}
 use Rattle.std.specs.Option.{option_map}
-use Rattle.std.specs.List.{AllByRecursion as All}
+use Rattle.std.specs.List.{AllByRecursion}
 use Rattle.std.specs.Str.{all_ascii_digits, bytes_eq}
 use Rattle.std.proofs.lemmas.Fmt.{decimal_nonempty, digits_decimal, digits_value-decimal}
 use Rattle.std.proofs.lemmas.Str.Parse.{IsNumeralModel, numerals_by_fold}
@@ -26,7 +26,7 @@ Shown b = (33 ≤ b) × (b ≤ 126)
 own : IsNumeralModel (λ ds. all_ascii_digits ds ≡ true) (read_on 0)
 own = numerals_by_fold _ (search rules) read_on (search rules)
 
-digits-shown : (ds : List ℕ) → all_ascii_digits ds ≡ true → All Shown ds
+digits-shown : (ds : List ℕ) → all_ascii_digits ds ≡ true → AllByRecursion Shown ds
 digits-shown [] e = tt
 digits-shown (c ∷ cs) e =
     let p = and_parts (is_ascii_digit c) (all_ascii_digits cs) e in
@@ -138,17 +138,17 @@ bytes_back Hex [] h = refl
 bytes_back Path [] h = refl
 bytes_back n (b ∷ bs) h = bytes_read n (all_text n (b ∷ bs)) (Some (b ∷ bs)) (not_none n b bs h.0) (all_back n (b ∷ bs) h)
 
-byte-shown : (n : Notation) (b : ℕ) → b < 256 → All Shown (byte_text n b)
+byte-shown : (n : Notation) (b : ℕ) → b < 256 → AllByRecursion Shown (byte_text n b)
 byte-shown n b h =
     let high = digit-shown (b / 16) (high_small b h) in
     let low = digit-shown (b % 16) (low_small b) in
     shown n ((omega arith, omega arith), ((omega arith, omega arith), tt))
   where
-    shown : (n : Notation) → All Shown (hex_pair b) → All Shown (byte_text n b)
+    shown : (n : Notation) → AllByRecursion Shown (hex_pair b) → AllByRecursion Shown (byte_text n b)
     shown Hex pair = pair
-    shown Path pair = cond_both (is_plain b) (b ∷ []) (92 ∷ hex_pair b) (All Shown) (λ e. let p = plain-parts b e in ((p.0, p.1), tt)) (λ e. ((omega arith, omega arith), pair))
+    shown Path pair = cond_both (is_plain b) (b ∷ []) (92 ∷ hex_pair b) (AllByRecursion Shown) (λ e. let p = plain-parts b e in ((p.0, p.1), tt)) (λ e. ((omega arith, omega arith), pair))
 
-all_shown : (n : Notation) (bs : List ℕ) → AreBytes bs → All Shown (all_text n bs)
+all_shown : (n : Notation) (bs : List ℕ) → AreBytes bs → AllByRecursion Shown (all_text n bs)
 all_shown n [] h = tt
 all_shown n (b ∷ bs) h = All-append Shown (byte_text n b) (all_text n bs) (byte-shown n b h.0) (all_shown n bs h.1)
 

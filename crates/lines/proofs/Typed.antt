@@ -1,6 +1,6 @@
 -- Every request can be typed. Assumes nothing.
 use Rattle.std.proofs.Common.{◌≡◌, ℕ, ◌^◌, ◌<◌, Bool, true, false, eqb, List, [], ◌∷◌, get_or, Some, Ok, decimal, Result, refl, ap, ◌∙◌, arith}
-use Rattle.std.specs.List.{AllByRecursion as All}
+use Rattle.std.specs.List.{AllByRecursion}
 use Rattle.std.proofs.lemmas.Bool.{cond-false}
 use Rattle.model.specs.Calls.{Call, Way, Old, May, New}
 use Rattle.model.specs.Calls as calls
@@ -50,7 +50,7 @@ sure (verb.OfPaths paths.Join) = (refl, (omega arith, shown-all (verb_word (verb
 sure (verb.OfPaths paths.MakeLink) = (refl, (omega arith, shown-all (verb_word (verb.OfPaths paths.MakeLink)) refl), refl)
 
 -- a verb's word, and words that it understands
-spoken : (v : Verb) (ws : List Word) (q : Asked) → All IsWord ws → asked_by v ws ≡ Ok q → parse_of (spaced (verb_word v) ws) ≡ Ask q
+spoken : (v : Verb) (ws : List Word) (q : Asked) → AllByRecursion IsWord ws → asked_by v ws ≡ Ok q → parse_of (spaced (verb_word v) ws) ≡ Ask q
 spoken v ws q h e =
     let s = sure v in
     ap words_meant (words_back (verb_word v) ws s.1 h) ∙ cond-false (eqb (get_or (verb_word v) 0 0) 35) Nothing (verb_meant (verb_of (verb_word v)) ws) s.2 ∙ ap (λ o. verb_meant o ws) s.0 ∙ ap meant e
@@ -92,7 +92,7 @@ paths-back : (v : PathsVerb) (p q : List ℕ) → AreBytes p → AreBytes q → 
 unfolding counted
 paths-back v p q l m = step (bytes_of Path (text_of Path p)) p _ _ (bytes_back Path p l) (step (bytes_of Path (text_of Path q)) q _ _ (bytes_back Path q m) refl)
 
-hex-words : (bs : List ℕ) → AreBytes bs → All IsWord (ended (text_of Hex bs))
+hex-words : (bs : List ℕ) → AreBytes bs → AllByRecursion IsWord (ended (text_of Hex bs))
 hex-words [] h = tt
 hex-words (b ∷ bs) h = (text-word Hex b bs h, tt)
 
@@ -101,7 +101,7 @@ unfolding counted bytes_of
 write-back h from [] l m b = step (number_of (decimal h)) h _ _ (number-back h l) (step (number_of (decimal from)) from _ _ (number-back from m) refl)
 write-back h from (x ∷ bs) l m b = step (number_of (decimal h)) h _ _ (number-back h l) (step (number_of (decimal from)) from _ _ (number-back from m) (step (bytes_of Hex (text_of Hex (x ∷ bs))) (x ∷ bs) _ _ (bytes_back Hex (x ∷ bs) b) refl))
 
-call_back : (c : Call) → Fits c → (asked_by (call_line c).verb (call_line c).words ≡ Ok (Asks c)) × All IsWord (call_line c).words
+call_back : (c : Call) → Fits c → (asked_by (call_line c).verb (call_line c).words ≡ Ok (Asks c)) × AllByRecursion IsWord (call_line c).words
 unfolding counted
 call_back (calls.Open way w p) h = (
   step (way_for (way_word way)) way _ _ (way_back way) (step (access_for (access_word w)) w _ _ (access-back w) (step (bytes_of Path (text_of Path p)) p _ _ (bytes_back Path p h) refl)),

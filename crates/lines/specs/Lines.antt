@@ -1,7 +1,7 @@
 -- What is printed can be read back, and every request can be typed.
 -- Assumes nothing.
 use Rattle.std.specs.Prelude.{◌≡◌, ℕ, ◌^◌, ◌<◌, ◌≤◌, Bool, true, false, List, [], ◌∷◌, ◌++◌, map, length, drop, Ok, codes, decimal, slice_index_or}
-use Rattle.std.specs.List.{AllByRecursion as All}
+use Rattle.std.specs.List.{AllByRecursion}
 use Rattle.model.specs.Calls.{Call, Way, Old, May, New, Reply, No, Done, Opened, Bytes, Told, Named, Full}
 use Rattle.model.specs.Calls as calls
 use Rattle.lines.specs.declared.notations.Notation.{Notation}
@@ -68,7 +68,7 @@ line_of q = spaced (verb_word (request_line q).verb) (request_line q).words
 
 -- its numbers have 64 bits, and its bytes 8
 abbrev pub AreBytes : List ℕ → Type 0
-AreBytes bs = All (λ b. b < 256) bs
+AreBytes bs = AllByRecursion (λ b. b < 256) bs
 
 abbrev pub Fits : Call → Type 0
 Fits (calls.Open way w p) = AreBytes p
@@ -95,7 +95,7 @@ AskedFits Helps = Unit {0}
 
 -- one word of a line, of bytes that any terminal shows
 abbrev pub IsWord : List ℕ → Type 0
-IsWord w = (0 < length w) × All (λ b. (33 ≤ b) × (b ≤ 126)) w
+IsWord w = (0 < length w) × AllByRecursion (λ b. (33 ≤ b) × (b ≤ 126)) w
 
 -- bytes that are printed: they are read back, and are one word; none are no word in hexadecimal
 abbrev pub BytesBack : Notation → List ℕ → (text : List ℕ) → Type 0

@@ -2,7 +2,7 @@
 -- Assumes nothing.
 use Rattle.std.proofs.Common.{◌≡◌, ℕ, ◌+◌, ◌*◌, ◌/◌, ◌%◌, ◌^◌, ◌<◌, List, length, get_or, refl, inl, inr, arith}
 use native.Mathlib.Nat.{div-div-eq-div-mul}
-use Rattle.std.specs.List.{AllByRecursion as All}
+use Rattle.std.specs.List.{AllByRecursion}
 use Rattle.std.proofs.ByRecursion.{All-get_or}
 use Rattle.std.proofs.lemmas.List.{get_or_past}
 use Rattle.std.proofs.lemmas.Bool.{cases_lt}
@@ -24,7 +24,7 @@ same_number n h =
 numbered : (n : ℕ) → Numbered n
 numbered n = record { long = refl; bytes = (omega arith, (omega arith, (omega arith, (omega arith, (omega arith, tt))))); same = same_number n }
 
-byte_at : (bs : List ℕ) (i : ℕ) → All Byte bs → get_or bs i 0 < 256
+byte_at : (bs : List ℕ) (i : ℕ) → AllByRecursion Byte bs → get_or bs i 0 < 256
 byte_at bs i h = elim (cases_lt i (length bs)) [ inl k ↦ All-get_or Byte bs i 0 k h | inr k ↦ let e = get_or_past bs i 0 k in omega arith ]
 
 pub numbers-read-back : NumbersReadBack

@@ -1,7 +1,7 @@
 -- Laws of the page of a node, of places among entries, and of page numbers.
 -- Assumes nothing.
 use Rattle.std.specs.Prelude.{◌≡◌, ℕ, ◌+◌, ◌-◌, ◌^◌, ◌<◌, ◌≤◌, Bool, true, false, List, ◌++◌, length, get_or, take, replicate, ◌≢◌, slice_index, slice_index_or}
-use Rattle.std.specs.List.{AllByRecursion as All}
+use Rattle.std.specs.List.{AllByRecursion}
 use Rattle.model.specs.Tree.{less_name}
 use Rattle.nodes.specs.Entries.{Entry, blank, weight_of, Fits, fitting, front_count}
 use Rattle.nodes.specs.Page.{encode, level_of, entries_of, weight_at}
@@ -12,7 +12,7 @@ abbrev pub Byte : ℕ → Type 0
 Byte b = b < 256
 
 abbrev pub ByteEntry : Entry → Type 0
-ByteEntry e = All Byte e.key × All Byte e.value
+ByteEntry e = AllByRecursion Byte e.key × AllByRecursion Byte e.value
 
 -- A node's page is 4,096 long and says the level, the entries and the weight that it was made of; it is of bytes where those are.
 pub record Written (l : ℕ) (es : List Entry) : Type 0 where
@@ -20,7 +20,7 @@ pub record Written (l : ℕ) (es : List Entry) : Type 0 where
   pub level : level_of (encode l es) ≡ l
   pub entries : entries_of (encode l es) ≡ es
   pub heavy : weight_at (encode l es) ≡ weight_of es
-  pub bytes : l < 256 → All ByteEntry es → All Byte (encode l es)
+  pub bytes : l < 256 → AllByRecursion ByteEntry es → AllByRecursion Byte (encode l es)
 
 abbrev pub ReadsBack : Type 0
 ReadsBack = (l : ℕ) (es : List Entry) → Fits es → Written l es
@@ -35,7 +35,7 @@ OneNode = (l m : ℕ) (es fs : List Entry) → Fits es → Fits fs → encode l 
 
 -- what any page of bytes says is of bytes
 abbrev pub BytesStay : Type 0
-BytesStay = (p : List ℕ) → All Byte p → All ByteEntry (entries_of p)
+BytesStay = (p : List ℕ) → AllByRecursion Byte p → AllByRecursion ByteEntry (entries_of p)
 
 -- n is the first place whose entry passes a test, and one past the last where none does
 pub record First (f : Entry → Bool) (es : List Entry) (n : ℕ) : Type 0 where
@@ -80,8 +80,8 @@ FittingIsLongest = (room : ℕ) (es : List Entry) → ((n : ℕ) × (fitting roo
 -- a page number is five bytes, which say it again
 pub record Numbered (n : ℕ) : Type 0 where
   pub long : length (number_bytes n) ≡ 5
-  pub bytes : All Byte (number_bytes n)
+  pub bytes : AllByRecursion Byte (number_bytes n)
   pub same : n < 2 ^ 40 → number_of (number_bytes n) ≡ n
 
 abbrev pub NumbersReadBack : Type 0
-NumbersReadBack = ((n : ℕ) → Numbered n) × ((bs : List ℕ) → All Byte bs → number_of bs < 2 ^ 40)
+NumbersReadBack = ((n : ℕ) → Numbered n) × ((bs : List ℕ) → AllByRecursion Byte bs → number_of bs < 2 ^ 40)
