@@ -9,6 +9,7 @@ use host::HostCard;
 use lines::{Notation, Parsed, Request};
 use model::{Call, Refusal, Reply};
 use std::io::{BufRead, BufReader};
+use std::process::ExitCode;
 
 // What closes a list: it is no name.
 const END: &str = ".";
@@ -131,10 +132,11 @@ fn serve(rt: &HostRuntime) -> anyhow::Result<()> {
     Ok(())
 }
 
-fn main(rt: HostRuntime) -> anyhow::Result<()> {
+// What went wrong is said once, in one line.
+fn main(rt: HostRuntime) -> ExitCode {
     let Err(e) = serve(&rt) else {
-        return Ok(());
+        return ExitCode::SUCCESS;
     };
-    eprintln!(rt; "card: {e}")?;
-    Err(e)
+    let _ = eprintln!(rt; "card: {e}");
+    ExitCode::FAILURE
 }

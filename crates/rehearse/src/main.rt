@@ -16,6 +16,7 @@ use pages::store::Store;
 use script::{Cut, Line};
 use std::alloc::{AllocError, Global};
 use std::io::Read;
+use std::process::ExitCode;
 use std::rc::Rc;
 use watched::{Askings, NO_ASKINGS, Watch, Watched};
 
@@ -286,10 +287,11 @@ fn rehearse(rt: &HostRuntime) -> anyhow::Result<()> {
     Ok(())
 }
 
-fn main(rt: HostRuntime) -> anyhow::Result<()> {
+// What went wrong is said once, in one line.
+fn main(rt: HostRuntime) -> ExitCode {
     let Err(e) = rehearse(&rt) else {
-        return Ok(());
+        return ExitCode::SUCCESS;
     };
-    eprintln!(rt; "rehearse: {e}")?;
-    Err(e)
+    let _ = eprintln!(rt; "rehearse: {e}");
+    ExitCode::FAILURE
 }

@@ -16,7 +16,7 @@ usage: tests/differential [all|cases|random|exhaustive|host|planted|script] [WOR
   --length K      exhaustive: lists of up to K calls (2)
   --cut-seeds N   exhaustive: so many seeds for each cut (3)
   --built CALLS   sync, core, all, or calls with commas between them (what tests/built says)
-  --program CMD   the program under test (target/bin/rehearse)
+  --program CMD   the program under test (crates/rehearse/out/rehearse)
   --no-cuts       random scripts without cuts
   --only NAME     planted: that mistake alone";
 
@@ -51,7 +51,7 @@ impl Options {
     pub fn parse(mut words: impl Iterator<Item = String>) -> Result<Options, String> {
         let root = PathBuf::from(std::env::var("RATSUMBE_ROOT").unwrap_or(".".to_string()));
         let mut built = std::fs::read_to_string(root.join("tests/built")).map_err(|e| format!("tests/built: {e}"))?.trim().to_string();
-        let mut program = root.join("target/bin/rehearse").to_string_lossy().into_owned();
+        let mut program = root.join("crates/rehearse/out/rehearse").to_string_lossy().into_owned();
         let mut options = Options {
             mode: Mode::All,
             root,
