@@ -62,13 +62,13 @@ get_or-next : (p q : List ℕ) (a b : ℕ) → get_or (p ++ (a ∷ b ∷ q)) (le
 get_or-next [] q a b = refl
 get_or-next (x ∷ p) q a b = get_or-next p q a b
 
-get_d_after : (p q : List ℕ) (a b : ℕ) → get_or (p ++ (a ∷ b ∷ q)) (length p + 1) 0 ≡ b
-get_d_after p q a b = get_or-append-add p (a ∷ b ∷ q) 1 0
+get_or-after : (p q : List ℕ) (a b : ℕ) → get_or (p ++ (a ∷ b ∷ q)) (length p + 1) 0 ≡ b
+get_or-after p q a b = get_or-append-add p (a ∷ b ∷ q) 1 0
 
 pub word_at-at : (p q : List ℕ) (n at : ℕ) → length p ≡ at → word_at (p ++ (two_bytes n ++ q)) at ≡ n
 word_at-at p q n at h =
     let a = get_or-next p q (n % 256) (n / 256) in
-    let b = get_d_after p q (n % 256) (n / 256) in
+    let b = get_or-after p q (n % 256) (n / 256) in
     let w = word-is n in
     rw (← h) (rw (a, b) w)
 

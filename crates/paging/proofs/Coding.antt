@@ -81,8 +81,8 @@ zeros-at zero t = refl
 zeros-at (suc n) zero = refl
 zeros-at (suc n) (suc t) = zeros-at n t
 
-get_d_past : (p q : List ℕ) (n k : ℕ) → length p ≡ n → get_or (p ++ q) (n + k) 0 ≡ get_or q k 0
-get_d_past p q n k e = subst (λ n. get_or (p ++ q) (n + k) 0 ≡ get_or q k 0) e (get_or-append-add p q k 0)
+get_or-past : (p q : List ℕ) (n k : ℕ) → length p ≡ n → get_or (p ++ q) (n + k) 0 ≡ get_or q k 0
+get_or-past p q n k e = subst (λ n. get_or (p ++ q) (n + k) 0 ≡ get_or q k 0) e (get_or-append-add p q k 0)
 
 -- PLACES
 length-le : (n v : ℕ) → length (bytes_le n v) ≡ n
@@ -188,7 +188,7 @@ byte_at (suc n) k f l =
       | inr a ↦
           let e : k ≡ n + 0 = omega arith in
           let i : k ≡ n = omega arith in
-          ap (λ k. get_or (bytes_to n f ++ (bits_to 8 (λ i. f (8 * n + i)) ∷ [])) k 0) e ∙ (get_d_past (bytes_to n f) _ n 0 (length-bytes n f) ∙ ap (λ n. bits_to 8 (λ i. f (8 * n + i))) (sym i))
+          ap (λ k. get_or (bytes_to n f ++ (bits_to 8 (λ i. f (8 * n + i)) ∷ [])) k 0) e ∙ (get_or-past (bytes_to n f) _ n 0 (length-bytes n f) ∙ ap (λ n. bits_to 8 (λ i. f (8 * n + i))) (sym i))
     ]
 
 bit_in : (f : ℕ → Bool) (k v : ℕ) → k < 2048 → v ≡ get_or (bytes_to 256 f) (k / 8) 0 → bit_of (k % 8) v ≡ f k
@@ -197,12 +197,12 @@ bit_in f k v l e =
     ap (bit_of (k % 8)) (e ∙ byte_at 256 (k / 8) f (omega arith)) ∙ (bit-back 8 (k % 8) (λ i. f (8 * (k / 8) + i)) (omega arith) ∙ ap f a)
 
 pub bit-inner : (f : ℕ → Bool) (k : ℕ) → k < 2048 → bit_at (inner_sector f) k ≡ f k
-bit-inner f k l = bit_in f k _ l (get_d_past (replicate 256 0) (bytes_to 256 f) 256 (k / 8) (length-replicate {A = ℕ} 256 0))
+bit-inner f k l = bit_in f k _ l (get_or-past (replicate 256 0) (bytes_to 256 f) 256 (k / 8) (length-replicate {A = ℕ} 256 0))
 
 pub bit-root : (label : List ℕ) (f : ℕ → Bool) (k : ℕ) → length label ≡ 248 → k < 2048 → bit_at (root_sector label f) k ≡ f k
 bit-root label f k h l =
     let e : 256 + k / 8 ≡ 8 + (248 + k / 8) = omega arith in
-    bit_in f k _ l (ap (λ i. get_or (root_sector label f) i 0) e ∙ (get_d_past form_bytes (label ++ bytes_to 256 f) 8 (248 + k / 8) refl ∙ get_d_past label (bytes_to 256 f) 248 (k / 8) h))
+    bit_in f k _ l (ap (λ i. get_or (root_sector label f) i 0) e ∙ (get_or-past form_bytes (label ++ bytes_to 256 f) 8 (248 + k / 8) refl ∙ get_or-past label (bytes_to 256 f) 248 (k / 8) h))
 
 pub bit-blank : (k : ℕ) → bit_at blank_sector k ≡ false
 bit-blank k = ap (bit_of (k % 8)) (zeros-at 512 (256 + k / 8)) ∙ bit-none (k % 8)
