@@ -31,6 +31,7 @@ impl<'f, P> Cached<'f, P> {
         &mut self.pages
     }
 }
+
 // With all that is marked written below.
 fn spare_after<P: Pages>(pages: &mut P, held: &mut Frames, from: u64) -> u64
     requires { Good held.old }
