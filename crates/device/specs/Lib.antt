@@ -7,4 +7,5 @@ pub mod Flow
 pub mod Plays
 pub mod Towers
 pub mod Memory
+pub mod Random
 pub mod Priced

@@ -1,12 +1,13 @@
 -- What the device in memory is to those who ask it.
 -- Assumes nothing.
-use Rattle.std.specs.Prelude.{◌≡◌, ℕ, ◌+◌, ◌-◌, ◌*◌, ◌/◌, ◌%◌, ◌^◌, ◌<◌, min, Bool, true, false, cond, ◌⊎◌, List, [], ◌∷◌, ◌++◌, vec_items, vec_len, vec_capacity, ◌==◌, bit_xor, slice_index_or}
+use Rattle.std.specs.Prelude.{◌≡◌, ℕ, ◌+◌, ◌-◌, ◌^◌, ◌<◌, min, Bool, true, false, cond, ◌⊎◌, List, [], ◌∷◌, ◌++◌, vec_items, vec_len, vec_capacity, ◌==◌, slice_index_or}
 use Rattle.device.specs.Sectors.{Device, blank_sector, blank_device}
 use Rattle.device.specs.Program.{Io, run, Fair, Upto}
 use Rattle.device.specs.Plays.{Asked, Read, Write, Sync, Told, Plays, honest}
 use Rattle.device.specs.declared.memory.Logged.{Logged}
 use Rattle.device.specs.declared.memory.Power.{Power}
 use Rattle.device.specs.declared.memory.Power.TheVariants.{Unlimited, For, Off}
+use Rattle.device.specs.declared.memory.Askings.{Askings}
 use Rattle.device.specs.declared.memory.Memory.{Memory}
 
 -- THE POWER
@@ -26,16 +27,6 @@ abbrev pub limited : ℕ → Power → Power
 limited n Unlimited = For n
 limited n (For m) = For n
 limited n Off = Off
-
--- COINS: splitmix64
-abbrev pub turned : ℕ → ℕ
-turned n = (n + 0x9E37_79B9_7F4A_7C15) % 2 ^ 64
-
-abbrev pub mixed : ℕ → ℕ
-mixed n =
-    let a = (bit_xor n (n / 2 ^ 30) * 0xBF58_476D_1CE4_E5B9) % 2 ^ 64 in
-    let b = (bit_xor a (a / 2 ^ 27) * 0x94D0_49BB_1331_11EB) % 2 ^ 64 in
-    bit_xor b (b / 2 ^ 31)
 
 -- THE VIEW. What a sector s that shows `now` held at the last sync: what the first write to it since then replaced.
 unfoldable pub kept_of : ℕ → List ℕ → List Logged → List ℕ
@@ -69,8 +60,11 @@ pub record Counts : Type 0 where
 abbrev pub no_counts : Counts
 no_counts = record { reads = 0; writes = 0; syncs = 0 }
 
+abbrev pub counts : Askings → Counts
+counts a = record { reads = a.reads; writes = a.writes; syncs = a.syncs }
+
 abbrev pub counts_of : Memory → Counts
-counts_of m = record { reads = m.reads; writes = m.writes; syncs = m.syncs }
+counts_of m = counts m.answered
 
 abbrev pub one_more : ℕ → ℕ
 one_more n = min (n + 1) (2 ^ 64 - 1)

@@ -2,6 +2,7 @@
 #![tactic(auto)]
 
 pub mod memory;
+pub mod random;
 pub mod theorems;
 
 ghost use Rattle.device.specs.Plays.{Asked, Told, Read, Write, Sync};

@@ -1,10 +1,12 @@
 // A device in memory, with which power cuts are rehearsed. It has what each sector shows, and a log of what each write since the last sync replaced: a sync forgets the log, and a cut undoes
 // some of it.
-ghost use Rattle.std.specs.Prelude.{◌≡◌, ◌%◌, replicate, IfOk, nat_lt};
-ghost use Rattle.device.specs.Sectors.{AfterCut, blank_sector};
-ghost use Rattle.device.specs.Memory.{lit, spent, limited, turned, mixed, size_of, view_of, counts_of, one_more, is_on, Blank, Unchanged, MemorySteps, MemoryPlays, MemoryRuns, MemoryCuts};
+ghost use Rattle.std.specs.Prelude.{◌≡◌, ◌%◌, IfOk, nat_lt};
+ghost use Rattle.device.specs.Sectors.{AfterCut};
+ghost use Rattle.device.specs.Random.{turned, mixed};
+ghost use Rattle.device.specs.Memory.{lit, spent, limited, size_of, view_of, counts, counts_of, one_more, is_on, Blank, Unchanged, MemorySteps, MemoryPlays, MemoryRuns, MemoryCuts};
 
 use crate::Device;
+use crate::random::SplitMix64;
 use crate::theorems::Answering;
 use std::alloc::{AllocError, Global};
 
@@ -27,10 +29,7 @@ impl Power {
     fn is_lit(&self) -> bool
         ensures { result ≡ lit self.now }
     {
-        match *self {
-            Power::Off => false,
-            _ => true,
-        }
+        !matches!(self, Power::Off)
     }
 
     // Something is asked: is it answered?
@@ -51,42 +50,35 @@ impl Power {
 // A coin that shows heads so many times in 256. Its odds come from the seed too, so that some cuts lose nearly all that was written, and some hardly anything.
 #[derive(Drop)]
 struct Coin {
-    state: u64,
+    random: SplitMix64,
     odds: u64,
 }
 
 impl Coin {
     fn new(seed: u64) -> Coin
-        ensures state { result.state ≡ turned seed }
+        ensures state { result.random.state ≡ turned seed }
         ensures odds { result.odds ≡ mixed (turned seed) % 257 }
     {
-        let mut coin = Coin {
-            state: seed,
-            odds: 0,
-        };
-        coin.odds = coin.next() % 257;
-        coin
-    }
-
-    // splitmix64
-    fn next(&mut self) -> u64
-        ensures state { self.new.state ≡ turned self.old.state }
-        ensures odds { self.new.odds ≡ self.old.odds }
-        ensures value { result ≡ mixed (turned self.old.state) }
-    {
-        self.state = self.state.wrapping_add(0x9E37_79B9_7F4A_7C15);
-        let a = (self.state ^ (self.state >> 30)).wrapping_mul(0xBF58_476D_1CE4_E5B9);
-        let b = (a ^ (a >> 27)).wrapping_mul(0x94D0_49BB_1331_11EB);
-        b ^ (b >> 31)
+        let mut random = SplitMix64::new(seed);
+        let odds = random.next_u64() % 257;
+        Coin { random, odds }
     }
 
     fn toss(&mut self) -> bool
-        ensures state { self.new.state ≡ turned self.old.state }
+        ensures state { self.new.random.state ≡ turned self.old.random.state }
         ensures odds { self.new.odds ≡ self.old.odds }
-        ensures value { result ≡ nat_lt (mixed (turned self.old.state) % 256) self.old.odds }
+        ensures value { result ≡ nat_lt (mixed (turned self.old.random.state) % 256) self.old.odds }
     {
-        self.next() % 256 < self.odds
+        self.random.next_u64() % 256 < self.odds
     }
+}
+
+// How often a device was asked and answered, up to the largest number.
+#[derive(Clone, Copy, Debug, Default, PartialEq, Eq)]
+pub struct Askings {
+    pub reads: u64,
+    pub writes: u64,
+    pub syncs: u64,
 }
 
 #[derive(Drop)]
@@ -95,9 +87,7 @@ pub struct Memory {
     // since the last sync, the oldest first
     log: Vec<Logged>,
     power: Power,
-    reads: u64,
-    writes: u64,
-    syncs: u64,
+    answered: Askings,
 }
 
 // One more, up to the largest number.
@@ -107,29 +97,16 @@ fn count(n: &mut u64)
     *n = n.saturating_add(1);
 }
 
-fn blank_sectors(heap: Global, sectors: usize) -> Result<Vec<[u8; 512]>, AllocError>
-    ensures { IfOk result (λ v. v.items ≡ replicate sectors blank_sector) }
-{
-    let mut v = Vec::with_capacity(heap, sectors)?;
-    for _ in 0..sectors {
-        v.push([0; 512])?;
-    }
-    Ok(v)
-}
-
 impl Memory {
     // A blank device, with the power on.
     pub fn new(heap: Global, sectors: u64) -> Result<Memory, AllocError>
         ensures { IfOk result (λ m. Blank m sectors) }
     {
-        let shown = blank_sectors(heap, sectors as usize)?;
         Ok(Memory {
-            shown,
+            shown: vec![in heap; [0; 512]; sectors as usize]?,
             log: Vec::new(heap),
             power: Power::Unlimited,
-            reads: 0,
-            writes: 0,
-            syncs: 0,
+            answered: Askings::default(),
         })
     }
 
@@ -139,23 +116,29 @@ impl Memory {
         self.shown.len() as u64
     }
 
-    // How many sectors were read and written, and how many syncs answered.
+    pub fn askings(&self) -> Askings
+        ensures { counts result ≡ counts_of self.now }
+    {
+        self.answered
+    }
+
+    // How many sectors were read and written, and how many syncs answered; one number each, for who wants no more.
     pub fn reads(&self) -> u64
         ensures { result ≡ (counts_of self.now).reads }
     {
-        self.reads
+        self.askings().reads
     }
 
     pub fn writes(&self) -> u64
         ensures { result ≡ (counts_of self.now).writes }
     {
-        self.writes
+        self.askings().writes
     }
 
     pub fn syncs(&self) -> u64
         ensures { result ≡ (counts_of self.now).syncs }
     {
-        self.syncs
+        self.askings().syncs
     }
 
     pub fn is_on(&self) -> bool
@@ -199,7 +182,7 @@ impl Device for Memory {
     fn read(&mut self, at: u64, into: &mut [u8; 512]) {
         if self.power.spend() && at < self.sectors() {
             *into = self.shown[at as usize];
-            count(&mut self.reads);
+            count(&mut self.answered.reads);
         } else {
             *into = [0; 512];
         }
@@ -211,7 +194,7 @@ impl Device for Memory {
             match self.log.push(Logged { at, was }) {
                 Ok(()) => {
                     self.shown[at as usize] = *bytes;
-                    count(&mut self.writes);
+                    count(&mut self.answered.writes);
                 }
                 Err(_) => self.power = Power::Off,
             }
@@ -221,7 +204,7 @@ impl Device for Memory {
     fn sync(&mut self) {
         if self.power.spend() {
             self.log.clear();
-            count(&mut self.syncs);
+            count(&mut self.answered.syncs);
         }
     }
 }

@@ -10,11 +10,9 @@ pub trait Layered {
     ghost tower: { Tower };
 }
 
-// Any two types that programs answer with.
+// Any type that a program answers with.
 pub trait Answering {
     ghost Out: { Type 0 };
-
-    ghost Next: { Type 0 };
 }
 
 // Any store on a device, and any layer above it.
@@ -42,8 +40,8 @@ pub fn within_over<L: Layered>() -> u8
 }
 
 // One program after another reads what both read.
-pub fn reads_then<A: Answering>() -> u8
-    ensures { ReadsThen A.Answering.Out A.Answering.Next }
+pub fn reads_then<A: Answering, B: Answering>() -> u8
+    ensures { ReadsThen A.Answering.Out B.Answering.Out }
 {
     0
 }

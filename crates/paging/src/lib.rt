@@ -3,10 +3,7 @@
 
 ghost use Rattle.paging.specs.Promise.{StoreKept, PagesKept, UpSoon, CallsPriced, PlansPriced, LeftMeans, Roomy, LeavesForeign, ForeignStays, AlwaysKnown};
 
-// Any type that a plan gives.
-pub trait Giving {
-    ghost Out: { Type 0 };
-}
+use device::theorems::Answering;
 
 // The store keeps to its judge, over any calls and power cuts, and touches nothing but the device.
 pub fn store_kept() -> u8
@@ -37,8 +34,8 @@ pub fn calls_priced() -> u8
 }
 
 // The prices of a plan's calls add up.
-pub fn plans_priced<G: Giving>() -> u8
-    ensures { PlansPriced G.Giving.Out }
+pub fn plans_priced<A: Answering>() -> u8
+    ensures { PlansPriced A.Answering.Out }
 {
     0
 }
@@ -58,8 +55,8 @@ pub fn leaves_foreign() -> u8
 }
 
 // And any calls of it leave it so.
-pub fn foreign_stays<G: Giving>() -> u8
-    ensures { ForeignStays G.Giving.Out }
+pub fn foreign_stays<A: Answering>() -> u8
+    ensures { ForeignStays A.Answering.Out }
 {
     0
 }
