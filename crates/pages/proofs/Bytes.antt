@@ -1,25 +1,59 @@
 -- The bytes of a sector: compared, and as numbers and bits.
 -- Assumes nothing.
-use Rattle.std.proofs.Common.{◌≡◌, ℕ, zero, suc, ◌+◌, ◌-◌, ◌*◌, ◌/◌, ◌%◌, ◌^◌, ◌<◌, ◌≤◌, Bool, true, ◌&&◌, eqb, ltb, List, [], ◌∷◌, ◌++◌, length, get_or, take, drop, set, sym, refl, ap, ◌∙◌, inl, inr, add-one, arith, lit<}
-use lib.Bits.{bit_and}
+use Rattle.std.proofs.Common.{◌≡◌, ℕ, zero, suc, ◌+◌, ◌-◌, ◌*◌, ◌/◌, ◌%◌, ◌^◌, ◌<◌, ◌≤◌, Bool, true, false, not, ◌&&◌, eqb, ltb, List, [], ◌∷◌, ◌++◌, length, get_or, take, drop, take-suc, take_all, subst, sym, refl, ap, ◌∙◌, inl, inr, arith, lit<}
+use mir.Val.{bool_byte}
+use lib.Bits.{bit_and, bit_or}
 use borrow.Rule.Slice.PartMut.{put_mid}
+use denote.Param.Members.{Mut, Called}
+use Rattle.std.specs.Prelude.{MatchOption}
+use Rattle.std.specs.declared.option.Option.{Option}
+use Rattle.std.specs.Iterator.{AlwaysYields}
+use Rattle.std.specs.Iterator.Adapters.{rev_steps, rev_source}
+use Rattle.std.specs.declared.iter.Rev.{Rev}
+use Rattle.std.specs.declared.ops.Range.{Range}
+use Rattle.std.specs.Array.{IsFromFnResultFrom, IsFromFnResult}
+use Rattle.std.specs.List.{starts_with, flat_map, fold}
+use Rattle.std.specs.Simd.{first_chunks}
 use Rattle.std.specs.Cmp.Lexicographic.{pointwise}
-use Rattle.std.proofs.lemmas.Nat.{shr-shr, and_mask, pow-add, pow_below}
+use Rattle.std.proofs.lemmas.Nat.{or_disjoint, shr-shr, and_mask, pow-add, pow_below}
 use Rattle.std.proofs.lemmas.Slice.Eq.{slice_eq-Decides, compares_Decides}
-use Rattle.std.proofs.lemmas.List.{get_or-drop, get_or-take, drop-drop, append-nil, append_assoc, length-append, take_at, take_more_set}
+use Rattle.std.proofs.lemmas.List.{get_or-drop, get_or-take, drop-drop, append-nil, append_assoc, length-append, length-drop, length-take, take_at}
 use Rattle.std.proofs.lemmas.Slice.{take-put_mid}
-use Rattle.std.proofs.lemmas.Bool.{cases_eq, eq-eqb, lt-ltb, and_from}
+use Rattle.std.proofs.lemmas.Grind.{flat_map-append}
+use Rattle.std.proofs.lemmas.Bool.{cases_eq, eq-eqb, ne_eqb, lt-ltb, and_from}
 use Rattle.std.proofs.lemmas.Bool.Decides.{same_from_decides, Decides-eqb}
 use Rattle.device.specs.Sectors.{all_bytes}
 use Rattle.paging.specs.Layout.{one}
 use Rattle.paging.specs.Pages.{same_bytes}
 use Rattle.paging.specs.Sectors.{number_le, bit_of, bits_to, bytes_to, bytes_le, places_to}
-use Rattle.pages.proofs.Counts.{one-le}
+use Rattle.pages.proofs.Counts.{by-eq, one-le, from-bool}
 
 -- `==` of bytes
 pub same-is : (xs ys : List ℕ) (r : Bool) → r ≡ pointwise eqb xs ys → r ≡ same_bytes xs ys
 unfolding same_bytes
 same-is xs ys r h = same_from_decides r (same_bytes xs ys) (slice_eq-Decides Decides-eqb xs ys r h) (compares_Decides same_bytes (record { empty = refl; shorter = λ y ys. refl; longer = λ x xs. refl; heads = λ x y xs ys. refl }) xs ys)
+
+eqb-swap : (x y : ℕ) → eqb x y ≡ eqb y x
+eqb-swap x y = by-eq x y (λ t. t ≡ eqb y x) (λ e. sym (eq-eqb y x (sym e))) (λ n. sym (ne_eqb y x (λ e. n (sym e))))
+
+same-swap : (xs ys : List ℕ) → same_bytes xs ys ≡ same_bytes ys xs
+unfolding same_bytes
+same-swap [] [] = refl
+same-swap [] (y ∷ ys) = refl
+same-swap (x ∷ xs) [] = refl
+same-swap (x ∷ xs) (y ∷ ys) = λ j. eqb-swap x y j && same-swap xs ys j
+
+-- `starts_with`
+pub starts-is : (xs form : List ℕ) (r : Bool) → r ≡ starts_with eqb xs form → r ≡ same_bytes (take (length form) xs) form
+starts-is xs form r h = same-is form (take (length form) xs) r h ∙ same-swap form (take (length form) xs)
+
+twice_not : (b : Bool) → not (not b) ≡ b
+twice_not true = refl
+twice_not false = refl
+
+-- `!=` of bytes
+pub differ-is : (xs ys : List ℕ) (r : Bool) → r ≡ not (pointwise eqb xs ys) → same_bytes xs ys ≡ not r
+differ-is xs ys r h = sym (same-is xs ys (pointwise eqb xs ys) refl) ∙ (sym (twice_not (pointwise eqb xs ys)) ∙ ap not (sym h))
 
 -- a bit of a byte
 pub bit_is : (i v : ℕ) → eqb (bit_and (v / 2 ^ i) 1) 1 ≡ bit_of i v
@@ -66,7 +100,13 @@ number_is bs w k n z e =
     at : (i : ℕ) → i < 8 → get_or w i 0 ≡ get_or bs (k + i) 0
     at i l = ap (λ (x : List ℕ). get_or x i 0) e ∙ (get_or-take n (drop k bs) i 0 (omega arith) ∙ get_or-drop k bs i 0)
 
--- 8 bits as a number, the highest first
+-- a part of n bytes
+pub chunk-at : (n k j : ℕ) (bs : List ℕ) → j < k → get_or (first_chunks n k bs) j [] ≡ take n (drop (n * j) bs)
+chunk-at n zero j bs l = absurd (omega arith)
+chunk-at n (suc k) zero bs l = let e : n * 0 ≡ 0 = omega arith in ap (λ (i : ℕ). take n (drop i bs)) (sym e)
+chunk-at n (suc k) (suc j) bs l = let e : n + n * j ≡ n * suc j = omega arith in chunk-at n k j (drop n bs) (omega arith) ∙ ap (take n) (drop-drop (n * j) n bs ∙ ap (λ (n : ℕ). drop n bs) e)
+
+-- bits as a number
 bits-ext : (n : ℕ) (f g : ℕ → Bool) → ((k : ℕ) → f k ≡ g k) → bits_to n f ≡ bits_to n g
 unfolding bits_to
 bits-ext zero f g h = refl
@@ -76,52 +116,13 @@ pub bits_none : (f : ℕ → Bool) → 0 ≡ bits_to 0 f
 unfolding bits_to
 bits_none f = refl
 
-pub bits-more : (f : ℕ → Bool) (i v : ℕ) (b : Bool) → i < 8 → v ≡ bits_to i (λ k. f ((8 - i) + k)) → b ≡ f (7 - i) → one b + 2 * v ≡ bits_to (i + 1) (λ k. f ((8 - (i + 1)) + k))
-unfolding bits_to
-bits-more f i v b l e d =
-    let x : 7 - i ≡ (8 - (i + 1)) + 0 = omega arith in
-    let a = ap one (d ∙ ap f x) in
-    let c = bits-ext i (λ k. f ((8 - i) + k)) (λ k. f ((8 - (i + 1)) + suc k)) (λ k. let y : (8 - i) + k ≡ (8 - (i + 1)) + suc k = omega arith in ap f y) in
-    let z : one b + 2 * v ≡ bits_to (suc i) (λ k. f ((8 - (i + 1)) + k)) = omega arith in
-    z ∙ ap (λ (n : ℕ). bits_to n (λ k. f ((8 - (i + 1)) + k))) (sym (add-one i))
-
-pub bits-all : (f : ℕ → Bool) (i v : ℕ) → i ≡ 8 → v ≡ bits_to i (λ k. f ((8 - i) + k)) → v ≡ bits_to 8 f
-bits-all f i v z e =
-    e ∙ (ap (λ (n : ℕ). bits_to n (λ k. f ((8 - n) + k))) z ∙ bits-ext 8 (λ k. f ((8 - 8) + k)) f (λ k. let y : (8 - 8) + k ≡ k = omega arith in ap f y))
-
 bits_below : (n : ℕ) (f : ℕ → Bool) → bits_to n f < 2 ^ n
 unfolding bits_to
 bits_below zero f = lit< tt
 bits_below (suc n) f = let a = one-le (f 0) in let b = bits_below n (λ i. f (suc i)) in let c = pow-add 2 1 n in let e : 1 + n ≡ suc n = omega arith in let d = ap (λ (k : ℕ). 2 ^ k) e in omega arith
 
-pub bits_small : (n v : ℕ) (f : ℕ → Bool) → n ≤ 8 → v ≡ bits_to n f → v < 256
-bits_small n v f l e = let a = bits_below n f in elim (cases_eq n 8) [ inl z ↦ (let b = ap (λ (k : ℕ). 2 ^ k) z in omega arith) | inr z ↦ (let b = pow_below n 8 (omega arith) in omega arith) ]
-
--- t bytes of bits stand from 256 on
-bytes-more : (t : ℕ) (f : ℕ → Bool) → bytes_to (t + 1) f ≡ bytes_to t f ++ (bits_to 8 (λ i. f (8 * t + i)) ∷ [])
-unfolding bytes_to
-bytes-more t f = rw (add-one t)
-
-pub byte-none : (s : List ℕ) (f : ℕ → Bool) → take (256 + 0) s ≡ take 256 s ++ bytes_to 0 f
-unfolding bytes_to
-byte-none s f = sym (append-nil (take 256 s))
-
-pub byte_more : (s p : List ℕ) (t v : ℕ) (f : ℕ → Bool) → 256 + t < length s → take (256 + t) s ≡ p ++ bytes_to t f → v ≡ bits_to 8 (λ i. f (8 * t + i)) → take (256 + (t + 1)) (set s (256 + t) v) ≡ p ++ bytes_to (t + 1) f
-byte_more s p t v f l e d =
-    let x : 256 + (t + 1) ≡ (256 + t) + 1 = omega arith in
-    ap (λ (n : ℕ). take n (set s (256 + t) v)) x ∙ (take_more_set s (256 + t) v l ∙ ((λ j. e j ++ (d j ∷ [])) ∙ (append_assoc p (bytes_to t f) (bits_to 8 (λ i. f (8 * t + i)) ∷ []) ∙ ap (λ (x : List ℕ). p ++ x) (sym (bytes-more t f)))))
-
--- j places stand at the start
-places-more : (j : ℕ) (f : ℕ → ℕ) → places_to (j + 1) f ≡ places_to j f ++ bytes_le 8 (f j)
-unfolding places_to
-places-more j f = rw (add-one j)
-
-pub place_none : (s : List ℕ) (f : ℕ → ℕ) → take (8 * 0) s ≡ places_to 0 f
-unfolding places_to
-place_none s f = refl
-
-pub place-more : (s w : List ℕ) (j k : ℕ) (f : ℕ → ℕ) → 8 * j ≤ length s → length w ≡ 8 → take (8 * j) s ≡ places_to j f → w ≡ bytes_le 8 (f j) → take (8 * (j + 1)) (put_mid (8 * j) k s w) ≡ places_to (j + 1) f
-place-more s w j k f l z e d = take-put_mid (8 * j) k s w (8 * (j + 1)) (omega arith) l ∙ ((λ i. e i ++ d i) ∙ sym (places-more j f))
+pub bits_small : (n v : ℕ) (f : ℕ → Bool) → n < 8 → v ≡ bits_to n f → v < 128
+bits_small n v f l e = let a = bits_below n f in elim (cases_eq n 7) [ inl z ↦ (let b = ap (λ (k : ℕ). 2 ^ k) z in omega arith) | inr z ↦ (let b = pow_below n 7 (omega arith) in omega arith) ]
 
 -- what `to_le_bytes` gives
 pub le_is : (v : ℕ) → v % 256 ∷ (v / 256 % 256 ∷ (v / 65536 % 256 ∷ (v / 16777216 % 256 ∷ (v / 4294967296 % 256 ∷ (v / 1099511627776 % 256 ∷ (v / 281474976710656 % 256 ∷ (v / 72057594037927936 % 256 ∷ []))))))) ≡ bytes_le 8 v
@@ -153,3 +154,73 @@ all-bytes (x ∷ b) h = and_from (ltb x 256) (all_bytes b) (lt-ltb x 256 (h 0)) 
 
 pub can-put : (b : List ℕ) (n : ℕ) → length b ≡ n → ((i : ℕ) → get_or b i 0 < 256) → (eqb (length b) n && all_bytes b) ≡ true
 can-put b n e h = and_from (eqb (length b) n) (all_bytes b) (eq-eqb (length b) n e) (all-bytes b h)
+
+-- what `from_fn` makes, by a closure that stays as it is
+module _ {F B : Type 0} (g : Mut F (ℕ × Unit {0}) B) (f : F) (v : ℕ → B) (calls : (k : ℕ) (y : B) (q : F) → Called g f (k, tt) y q → (q ≡ f) × (y ≡ v k)) where
+  made-from : (ys : List B) (i n j k : ℕ) (d : B) → IsFromFnResultFrom g f ys i n → k ≡ i + j → j < n → get_or ys k d ≡ v k
+  made-from ys i zero j k d h z l = absurd (omega arith)
+  made-from ys i (suc n) zero k d (q, y, e, c, h) z l = let a : k ≡ i = omega arith in rw a (e.1 d ∙ (calls i y q c).1)
+  made-from ys i (suc n) (suc j) k d (q, y, e, c, h) z l = made-from ys (i + 1) n j k d (subst (λ p. IsFromFnResultFrom g p ys (i + 1) n) (calls i y q c).0 h) (omega arith) (omega arith)
+
+  pub made-at : (ys : List B) (n : ℕ) → IsFromFnResult g f ys n → (k : ℕ) (d : B) → k < n → get_or ys k d ≡ v k
+  made-at ys n h k d l = made-from ys 0 n k k d h.each (omega arith) l
+
+-- n bytes of bits
+bytes-first : (n m : ℕ) (ys : List ℕ) (f : ℕ → Bool) → length ys ≡ n → ((k : ℕ) → k < n → get_or ys k 0 ≡ bits_to 8 (λ i. f (8 * k + i))) → m ≤ n → take m ys ≡ bytes_to m f
+unfolding bytes_to
+bytes-first n zero ys f e h l = refl
+bytes-first n (suc m) ys f e h l = take-suc ys m 0 (omega arith) ∙ ((λ j. bytes-first n m ys f e h (omega arith) j ++ (h m (omega arith) j ∷ [])))
+
+pub bytes_are : (n : ℕ) (ys : List ℕ) (f : ℕ → Bool) → length ys ≡ n → ((k : ℕ) → k < n → get_or ys k 0 ≡ bits_to 8 (λ i. f (8 * k + i))) → ys ≡ bytes_to n f
+bytes_are n ys f e h = sym (take_all n ys (omega arith)) ∙ bytes-first n n ys f e h (omega arith)
+
+-- the second half of a sector is put
+pub second-half : (s w : List ℕ) → length s ≡ 512 → length w ≡ 256 → put_mid 256 256 s w ≡ take 256 s ++ w
+second-half s w l k =
+    let a : length (drop 256 (drop 256 s)) ≡ 0 = simp length-drop (omega arith) in
+    let b : length (take 256 s) ≡ 256 = simp length-take (omega arith) in
+    sym (take_all 512 (put_mid 256 256 s w) (simp length-append (omega arith))) ∙ take-put_mid 256 256 s w 512 (omega arith) (omega arith)
+
+-- n places, each of 8 bytes
+places-first : (n m : ℕ) (ys : List (List ℕ)) (f : ℕ → ℕ) → length ys ≡ n → ((k : ℕ) → k < n → get_or ys k [] ≡ bytes_le 8 (f k)) → m ≤ n → flat_map (λ x. x) (take m ys) ≡ places_to m f
+unfolding places_to
+places-first n zero ys f e h l = refl
+places-first n (suc m) ys f e h l =
+    ap (flat_map (λ x. x)) (take-suc ys m [] (omega arith)) ∙ (flat_map-append (λ x. x) (take m ys) (get_or ys m [] ∷ []) ∙ (λ j. places-first n m ys f e h (omega arith) j ++ (append-nil (get_or ys m []) ∙ h m (omega arith)) j))
+
+pub places_are : (n : ℕ) (ys : List (List ℕ)) (f : ℕ → ℕ) → length ys ≡ n → ((k : ℕ) → k < n → get_or ys k [] ≡ bytes_le 8 (f k)) → flat_map (λ x. x) ys ≡ places_to n f
+places_are n ys f e h = ap (flat_map (λ x. x)) (sym (take_all n ys (omega arith))) ∙ places-first n n ys f e h (omega arith)
+
+-- what a range gives from the back
+unfoldable pub down : ℕ → List ℕ
+down zero = []
+down (suc n) = n ∷ down n
+
+abbrev pub back : Range ℕ → Option ℕ → Range ℕ → Type 0
+back s r t = (t.start ≡ s.start) × MatchOption r ((s.end - s.start ≡ 0) × (t.end ≡ s.end)) (λ x. (0 < s.end - s.start) × (x ≡ t.end) × (s.end ≡ t.end + 1))
+
+pub range-down : (n : ℕ) (s : Rev (Range ℕ)) → (rev_source s).start ≡ 0 → (rev_source s).end ≡ n → AlwaysYields (rev_steps back) (λ x. x) s (down n)
+unfolding down
+range-down zero s a b = λ x j p. omega (arith, p.1.0)
+range-down (suc n) s a b = ((λ j p. omega (arith, p.1.0)), λ x j p. (omega (arith, p.1.1, p.1.2), range-down n j (p.0 ∙ a) (omega (arith, p.1.2))))
+
+-- 8 bits as a number, the highest first
+abbrev pub bit_in : (ℕ → Bool) → ℕ → ℕ → ℕ
+bit_in f v n = bit_or (v * 2 % 256) (bool_byte (f n))
+
+or-bit : (w : ℕ) (b : Bool) → bit_or (w * 2) (one b) ≡ one b + 2 * w
+unfolding one
+or-bit w true = or_disjoint (w * 2) 1 (and_mask (w * 2) 1 ∙ omega arith) ∙ omega arith
+or-bit w false = or_disjoint (w * 2) 0 (and_mask (w * 2) 0 ∙ omega arith) ∙ omega arith
+
+bit-in : (f : ℕ → Bool) (v n : ℕ) → v < 128 → bit_in f v n ≡ one (f n) + 2 * v
+bit-in f v n l = let a : v * 2 % 256 ≡ v * 2 = omega arith in (λ j. bit_or (a j) (from-bool (f n) j)) ∙ or-bit v (f n)
+
+pub bits-down : (f : ℕ → Bool) (n i v : ℕ) → i + n ≡ 8 → v ≡ bits_to i (λ k. f (n + k)) → fold (bit_in f) v (down n) ≡ bits_to 8 f
+unfolding bits_to down
+bits-down f zero i v a e = e ∙ (bits-ext i (λ k. f (0 + k)) f (λ k. let z : 0 + k ≡ k = omega arith in ap f z) ∙ (let z : i ≡ 8 = omega arith in ap (λ m. bits_to m f) z))
+bits-down f (suc n) i v a e =
+    let b = bits-ext i (λ k. f (suc n + k)) (λ k. f (n + suc k)) (λ k. let z : suc n + k ≡ n + suc k = omega arith in ap f z) in
+    let d : one (f n) ≡ one (f (n + 0)) = let z : n ≡ n + 0 = omega arith in ap (λ k. one (f k)) z in
+    let l = bits_small i v (λ k. f (suc n + k)) (omega arith) e in
+    bits-down f n (suc i) (bit_in f v n) (omega arith) (bit-in f v n l ∙ (λ j. d j + 2 * (e ∙ b) j))

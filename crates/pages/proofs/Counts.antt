@@ -1,6 +1,7 @@
 -- How many below a number, where one of them changes.
 -- Assumes nothing.
 use Rattle.std.proofs.Common.{◌≡◌, ℕ, zero, suc, ◌+◌, ◌-◌, ◌<◌, ◌≤◌, Bool, true, false, cond, eqb, ◌⊎◌, sym, refl, ap, ◌∙◌, inl, inr, arith}
+use mir.Val.{bool_byte}
 use Rattle.std.proofs.lemmas.Bool.{eqb-true, eqb-false, eq-eqb, ne_eqb, cases_eq}
 use Rattle.paging.specs.Layout.{one}
 use Rattle.paging.specs.Memory.{counts}
@@ -17,6 +18,11 @@ pub one-le : (b : Bool) → one b ≤ 1
 unfolding one
 one-le true = omega arith
 one-le false = omega arith
+
+pub from-bool : (b : Bool) → bool_byte b ≡ one b
+unfolding one
+from-bool true = refl
+from-bool false = refl
 
 pub count-ext : (n : ℕ) (t s : ℕ → Bool) → ((k : ℕ) → k < n → t k ≡ s k) → count n t ≡ count n s
 unfolding count

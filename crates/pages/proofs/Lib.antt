@@ -1,6 +1,6 @@
 pub mod Bytes
 pub mod Counts
-pub mod Flags
+pub mod Setting
 pub mod Kept
 pub mod Looks
 pub mod Served

@@ -1,25 +1,54 @@
 -- What is looked for in the memory.
 -- Assumes nothing.
-use Rattle.std.proofs.Common.{◌≡◌, ℕ, zero, suc, ◌+◌, ◌-◌, ◌<◌, ◌≤◌, min, Bool, true, false, cond, not, ◌&&◌, eqb, sym, refl, ap, ◌∙◌, arith}
-use Rattle.std.proofs.lemmas.Bool.{eq-eqb, ne_eqb, eqb-false, and_parts, not-true, not-false, cond-true, cond-false}
+use Rattle.std.proofs.Common.{◌≡◌, ℕ, zero, suc, ◌+◌, ◌-◌, ◌<◌, ◌≤◌, min, Bool, true, false, cond, not, eqb, List, [], ◌∷◌, length, Some, Option, sym, refl, ap, ◌∙◌, subst, arith}
+use Rattle.std.specs.List.{find, range_with_len}
+use Rattle.std.specs.Range.{range_steps_back}
+use Rattle.std.specs.Iterator.Adapters.{rev_source, rev_steps}
+use Rattle.std.specs.declared.iter.Rev.{Rev}
+use Rattle.std.specs.declared.ops.Range.{Range}
+use Rattle.std.proofs.lemmas.Bool.{cond-true, cond-false}
+use Rattle.std.proofs.lemmas.Iterator.{YieldsList}
+use Rattle.std.proofs.lemmas.Iterator.Consumers.{YieldsList-from_shown}
 use Rattle.paging.specs.Layout.{rooms}
 use Rattle.paging.specs.Memory.{Mem, vacant, find_down, free, target, find_blank, selected}
+use Rattle.pages.specs.Flags.{as_place}
+use Rattle.pages.specs.Of.{page_told}
 
 -- THE LAST ONE below a number
-pub found_here : (t : ℕ → Bool) (k n : ℕ) → 0 < k → find_down k t ≡ find_down n t → t (k - 1) ≡ true → k ≡ find_down n t
-unfolding find_down
-found_here t zero n o e h = absurd (omega arith)
-found_here t (suc k) n o e h = let a : suc k - 1 ≡ k = omega arith in sym (ap (λ (b : Bool). cond b (suc k) (find_down k t)) (ap t (sym a) ∙ h)) ∙ e
+unfoldable pub downs : ℕ → ℕ → List ℕ
+downs a zero = []
+downs a (suc n) = (a + n) ∷ downs a n
 
-pub found-less : (t : ℕ → Bool) (k n : ℕ) → 0 < k → find_down k t ≡ find_down n t → t (k - 1) ≡ false → find_down (k - 1) t ≡ find_down n t
-unfolding find_down
-found-less t zero n o e h = absurd (omega arith)
-found-less t (suc k) n o e h = let a : suc k - 1 ≡ k = omega arith in ap (λ (k : ℕ). find_down k t) a ∙ (sym (ap (λ (b : Bool). cond b (suc k) (find_down k t)) (ap t (sym a) ∙ h)) ∙ e)
+abbrev back : Range ℕ → Option ℕ → Range ℕ → Type 0
+back = range_steps_back (λ x y. y - x) (λ x y. y ≡ x + 1)
 
-pub found_none : (t : ℕ → Bool) (k n : ℕ) → k ≡ 0 → find_down k t ≡ find_down n t → 0 ≡ find_down n t
-unfolding find_down
-found_none t zero n o e = e
-found_none t (suc k) n o e = absurd (omega arith)
+-- what a range yields from its end
+pub yields_down : {s : Rev (Range ℕ)} (n : ℕ) → rev_source s ≡ record { start = 0; end = n } → YieldsList (rev_steps back) (λ x. x) s (downs 0 n)
+unfolding downs
+yields_down {s} n e =
+    let z : n - 0 ≡ n = omega arith in
+    subst (λ (k : ℕ). YieldsList (rev_steps back) (λ x. x) s (downs 0 k)) z
+    (subst (λ (u : Range ℕ). YieldsList (rev_steps back) (λ x. x) s (downs u.start (u.end - u.start))) e
+    (YieldsList-from_shown (rev_steps back) (λ x. x) (λ u. downs (rev_source u).start ((rev_source u).end - (rev_source u).start)) (λ u t p. none (rev_source u).start _ p.1.0)
+    (λ u x t p. some (rev_source u).start (rev_source u).end (rev_source t).start (rev_source t).end x p.0 p.1.0 p.1.1 p.1.2) s))
+  where
+    none : (a k : ℕ) → k ≡ 0 → length (downs a k) ≡ 0
+    none a k e = ap (λ (k : ℕ). length (downs a k)) e
+
+    some : (a b c d x : ℕ) → c ≡ a → 0 < b - a → x ≡ d → b ≡ d + 1 → downs a (b - a) ≡ x ∷ downs c (d - c)
+    some a b c d x ec o ex eb =
+        let e : b - a ≡ suc (d - a) = omega arith in
+        let f : a + (d - a) ≡ x = omega arith in
+        ap (downs a) e ∙ (λ j. f j ∷ downs (sym ec j) (d - sym ec j))
+
+pub found-down : (t : ℕ → Bool) (n : ℕ) → as_place (find t (downs 0 n)) ≡ find_down n t
+unfolding downs find_down
+found-down t zero = refl
+found-down t (suc n) = let z : 0 + n ≡ n = omega arith in ap (λ (k : ℕ). as_place (cond (t k) (Some k) (find t (downs 0 n)))) z ∙ go (t n) (found-down t n)
+  where
+    go : (b : Bool) → as_place (find t (downs 0 n)) ≡ find_down n t → as_place (cond b (Some n) (find t (downs 0 n))) ≡ cond b (suc n) (find_down n t)
+    go true h = refl
+    go false h = h
 
 found-le : (n : ℕ) (t : ℕ → Bool) → find_down n t ≤ n
 unfolding find_down
@@ -39,21 +68,17 @@ free-le m = go (eqb m.left 0) (eqb (find_down (min m.next (rooms m.size)) (vacan
     go false false = let a = found-le (min m.next (rooms m.size)) (vacant m.busy m.held) in omega arith
 
 -- WHERE A PAGE IS TO BE WRITTEN
-own-parts : (v : ℕ) (b : Bool) → (not (eqb v 0) && not b) ≡ true → (v ≡ 0 → ⊥) × (b ≡ false)
-own-parts v b e = let p = and_parts (not (eqb v 0)) (not b) e in (eqb-false v 0 (not-true _ p.0), not-true b p.1)
-
-pub target-own : (m : Mem) (v : ℕ) → (not (eqb v 0) && not (m.held (v - 1))) ≡ true → v ≡ target m v
+pub target-own : (m : Mem) (p : ℕ) → m.held p ≡ false → suc p ≡ target m (suc p)
 unfolding target
-target-own m zero e = absurd ((own-parts 0 (m.held (0 - 1)) e).0 refl)
-target-own m (suc p) e = let a : suc p - 1 ≡ p = omega arith in sym (cond-false (m.held p) (free m) (suc p) (ap m.held (sym a) ∙ (own-parts (suc p) (m.held (suc p - 1)) e).1))
+target-own m p e = sym (cond-false (m.held p) (free m) (suc p) e)
 
-pub target_free : (m : Mem) (v r : ℕ) → (not (eqb v 0) && not (m.held (v - 1))) ≡ false → r ≡ free m → r ≡ target m v
+pub target-held : (m : Mem) (p : ℕ) → m.held p ≡ true → free m ≡ target m (suc p)
 unfolding target
-target_free m zero r e h = h
-target_free m (suc p) r e h =
-    let a : suc p - 1 ≡ p = omega arith in
-    let b : (not false && not (m.held (suc p - 1))) ≡ false = ap (λ (t : Bool). not t && not (m.held (suc p - 1))) (sym (ne_eqb (suc p) 0 (omega arith))) ∙ e in
-    h ∙ sym (cond-true (m.held p) (free m) (suc p) (ap m.held (sym a) ∙ not-false (m.held (suc p - 1)) b))
+target-held m p e = sym (cond-true (m.held p) (free m) (suc p) e)
+
+pub target-none : (m : Mem) → free m ≡ target m 0
+unfolding target
+target-none m = refl
 
 pub target-le : (m : Mem) (v : ℕ) → v ≤ rooms m.size → target m v ≤ rooms m.size
 unfolding target
@@ -64,29 +89,18 @@ target-le m (suc p) h = go (m.held p)
     go true = free-le m
     go false = h
 
--- A BLANK PAGE: i pages were not blank
-pub blank-start : (m : Mem) (c f : ℕ) → find_blank m (c - 0) (f + 0) ≡ find_blank m c f
-blank-start m c f = let a : c - 0 ≡ c = omega arith in let b : f + 0 ≡ f = omega arith in λ j. find_blank m (a j) (b j)
-
-blank_step : (m : Mem) (k n : ℕ) → find_blank m (suc k) n ≡ cond (eqb (m.now n) 0) n (find_blank m k (suc n))
+-- A BLANK PAGE
+pub found-blank : (m : Mem) (k a : ℕ) → page_told (find (λ n. eqb (m.now n) 0) (range_with_len a k)) ≡ find_blank m k a
 unfolding find_blank
-blank_step m k n = refl
+found-blank m zero a = refl
+found-blank m (suc k) a = let z : a + 1 ≡ suc a = omega arith in go (eqb (m.now a) 0) (found-blank m k (a + 1) ∙ ap (find_blank m k) z)
+  where
+    rest : Option ℕ
+    rest = find (λ n. eqb (m.now n) 0) (range_with_len (a + 1) k)
 
-blank-next : (m : Mem) (c f i : ℕ) → i < c → find_blank m (c - i) (f + i) ≡ cond (eqb (m.now (f + i)) 0) (f + i) (find_blank m (c - (i + 1)) (f + (i + 1)))
-blank-next m c f i l =
-    let a : c - i ≡ suc (c - (i + 1)) = omega arith in
-    let b : suc (f + i) ≡ f + (i + 1) = omega arith in
-    ap (λ (k : ℕ). find_blank m k (f + i)) a ∙ (blank_step m (c - (i + 1)) (f + i) ∙ ap (λ (n : ℕ). cond (eqb (m.now (f + i)) 0) (f + i) (find_blank m (c - (i + 1)) n)) b)
-
-pub blank-here : (m : Mem) (c f i : ℕ) → i < c → m.now (f + i) ≡ 0 → find_blank m (c - i) (f + i) ≡ find_blank m c f → f + i ≡ find_blank m c f
-blank-here m c f i l z e = sym (cond-true (eqb (m.now (f + i)) 0) (f + i) (find_blank m (c - (i + 1)) (f + (i + 1))) (eq-eqb (m.now (f + i)) 0 z)) ∙ (sym (blank-next m c f i l) ∙ e)
-
-pub blank-more : (m : Mem) (c f i : ℕ) → i < c → (m.now (f + i) ≡ 0 → ⊥) → find_blank m (c - i) (f + i) ≡ find_blank m c f → find_blank m (c - (i + 1)) (f + (i + 1)) ≡ find_blank m c f
-blank-more m c f i l z e = sym (cond-false (eqb (m.now (f + i)) 0) (f + i) (find_blank m (c - (i + 1)) (f + (i + 1))) (ne_eqb (m.now (f + i)) 0 z)) ∙ (sym (blank-next m c f i l) ∙ e)
-
-pub blank_none : (m : Mem) (c f i : ℕ) → i ≡ c → find_blank m (c - i) (f + i) ≡ find_blank m c f → 0 ≡ find_blank m c f
-unfolding find_blank
-blank_none m c f i z e = let a : c - i ≡ 0 = omega arith in ap (λ (k : ℕ). find_blank m k (f + i)) (sym a) ∙ e
+    go : (b : Bool) → page_told rest ≡ find_blank m k (suc a) → page_told (cond b (Some a) rest) ≡ cond b a (find_blank m k (suc a))
+    go true h = refl
+    go false h = h
 
 -- THE SLOT OF A NODE after a sync
 pub selected-root : (m : Mem) (k : ℕ) → k ≡ 0 → false ≡ selected m k

@@ -1,21 +1,29 @@
 -- What the store is to its machine, and when it comes up.
 -- Assumes nothing.
-use Rattle.std.specs.Prelude.{◌≡◌, ℕ, ◌*◌, true, cond, length, Some, None, Ok, Err, Option, Result, nat_lt}
+use Rattle.std.specs.Prelude.{◌≡◌, ℕ, ◌*◌, true, cond, length, Some, None, Ok, Err, List, Option, Result, nat_lt}
 use Rattle.device.specs.Flow.{Runs}
 use Rattle.device.specs.Plays.{Asked, Told}
 use Rattle.paging.specs.Layout.{numbers}
+use Rattle.paging.specs.Memory.{Mem}
 use Rattle.paging.specs.Store.{Stored, shut, open_flow}
 use Rattle.pages.specs.declared.store.Store.{Store}
 use Rattle.pages.specs.declared.store.OpenError.{OpenError}
 use Rattle.pages.specs.declared.store.OpenError.TheVariants.{TooFewSectors, TooManySectors, TooFewWords}
 use Rattle.pages.specs.Of.{seen}
 
--- while it is up; at any time
-abbrev pub open_of : {D : Type 0} → Store D → Stored
-open_of s = record { known = true; label = s.label; mem = seen s.memory }
+-- up, with a label, or not
+abbrev pub stored : Option (List ℕ) → Mem → Stored
+stored (Some l) m = record { known = true; label = l; mem = m }
+stored None m = shut
 
 abbrev pub stored_of : {D : Type 0} → Store D → Stored
-stored_of s = cond s.up (open_of s) shut
+stored_of s = stored s.label (seen s.memory)
+
+-- why there is no card of so many sectors
+abbrev pub size_fault : ℕ → Option OpenError
+size_fault sectors =
+    cond (nat_lt sectors 8192) (Some TooFewSectors)
+    (cond (nat_lt 1099511627776 sectors) (Some TooManySectors) None)
 
 -- why it does not come up
 abbrev pub open_fault : (sectors words : ℕ) → Option OpenError
@@ -25,7 +33,7 @@ open_fault sectors words =
     (cond (nat_lt words (2 * numbers sectors)) (Some TooFewWords) None))
 
 abbrev pub words_of : {D : Type 0} → Store D → ℕ
-words_of s = length s.memory.words.now
+words_of s = length s.memory.words.cells.now
 
 -- It comes up as its flow does, exactly where nothing is at fault; else nothing was asked of the device, and it is shut.
 abbrev pub ComesUp : {D : Type 0} → (D → (c : Asked) → Told c → D → Type 0) → ℕ → Store D → Store D → Result ℕ OpenError → Type 0

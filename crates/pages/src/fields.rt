@@ -1,175 +1,102 @@
 // The fields of the memory, each read and set. Nobody else looks at the bits of a word.
-ghost use Rattle.std.specs.Prelude.{◌≡◌, ◌*◌, ◌<◌, ◌≤◌, length};
-ghost use Rattle.paging.specs.Layout.{numbers, one};
-ghost use Rattle.paging.specs.Memory.{at, bare, with_sel, with_dirty, with_now, with_old, with_vol, with_busy, with_held};
-ghost use Rattle.pages.specs.Words.{Fits, put_place, put_flag0, put_flag1, put_flag2};
-ghost use Rattle.pages.specs.Of.{ram_of, seen, Good, Fields};
+ghost use Rattle.std.specs.Prelude.{◌≡◌, ◌*◌, ◌<◌, ◌≤◌, length, nat_le};
+ghost use Rattle.paging.specs.Layout.{numbers, rooms};
+ghost use Rattle.paging.specs.Memory.{bare, vacant};
+ghost use Rattle.pages.specs.Flags.{as_place, flag_in, place_in, with_flag, with_place};
+ghost use Rattle.pages.specs.Of.{view, Sets};
+ghost use Rattle.pages.specs.Words.{Flagged};
 
-use crate::geometry::rooms_of;
-use crate::memory::Memory;
+use crate::flags::{Flag, Version};
+use crate::geometry::Card;
+use crate::memory::Words;
 
 // The places that a word can hold.
-const PLACES: u64 = 274877906944;
+const PLACES: u64 = 1 << 38;
 
-pub(crate) fn one_of(b: bool) -> u64
-    ensures { (result ≡ one b) × (result ≤ 1) }
+// A place as the words and the card's sectors have it: 0 for none, as their layout says.
+pub(crate) fn number_of(place: Option<u64>) -> u64
+    requires { as_place place < 274877906944 }
+    ensures { result ≡ as_place place }
 {
-    if b { 1 } else { 0 }
+    place.map_or(0, |p| p + 1)
 }
 
-// The word with another place, and with one of its three flags set anew.
-fn with_place(w: u64, v: u64) -> u64
-    requires { v < 274877906944 }
-    ensures { result ≡ put_place v w }
+// A word with one of its flags set anew.
+fn with_bit(word: u64, bit: u32, on: bool) -> u64
+    requires { (38 ≤ bit) × (bit < 41) }
+    ensures { Flagged word result bit on }
 {
-    v + PLACES * (w / PLACES)
+    let mask = 1u64 << bit;
+    if on { word | mask } else { word & !mask }
 }
 
-fn with_flag0(w: u64, b: bool) -> u64
-    ensures { result ≡ put_flag0 b w }
-{
-    let f = w / PLACES;
-    w % PLACES + PLACES * (one_of(b) + 2 * (f / 2))
-}
-
-fn with_flag1(w: u64, b: bool) -> u64
-    ensures { result ≡ put_flag1 b w }
-{
-    let f = w / PLACES;
-    w % PLACES + PLACES * (f % 2 + (2 * one_of(b) + 4 * (f / 4)))
-}
-
-fn with_flag2(w: u64, b: bool) -> u64
-    ensures { result ≡ put_flag2 b w }
-{
-    let f = w / PLACES;
-    w % PLACES + PLACES * (f % 4 + (4 * one_of(b) + 8 * (f / 8)))
-}
-
-impl<'a> Memory<'a> {
-    pub(crate) fn count(&self) -> u64
-        ensures { result ≡ length self.now.words.now }
+// That a number is one of this card's pages stands in each contract: a type for it would have to hold the card's size, and be made at each call.
+impl<'a> Words<'a> {
+    // No card is there yet.
+    pub(crate) fn new(cells: &'a mut [u64]) -> Words<'a>
+        ensures { view result 0 0 ≡ bare 0 }
     {
-        self.words.len() as u64
+        cells.fill(0);
+        Words {
+            card: Card { sectors: 0 },
+            cells,
+        }
+    }
+
+    // Whether there are two words for each page of a card.
+    pub(crate) fn suffices(&self, card: Card) -> bool
+        ensures { result ≡ nat_le (2 * numbers card.sectors) (length self.now.cells.now) }
+    {
+        2 * card.pages() <= self.cells.len() as u64
     }
 
     // Nothing is known of the card yet: all pages are blank.
-    pub(crate) fn clear(&mut self, size: u64)
-        requires { (2 * numbers size ≤ length self.old.words.now) × ((8192 ≤ size) × (size ≤ 1099511627776)) }
-        ensures { (Good self.new) × (seen self.new ≡ bare size) }
+    pub(crate) fn clear(&mut self, card: Card)
+        requires { 2 * numbers card.sectors ≤ length self.old.cells.now }
+        ensures { view self.new (rooms card.sectors) (rooms card.sectors) ≡ bare card.sectors }
     {
-        let rooms = rooms_of(size);
-        self.words.fill(0);
-        self.size = size;
-        self.left = rooms;
-        self.next = rooms;
+        self.cells.fill(0);
+        self.card = card;
     }
 
-    // The place of a page as it is, and as synced.
-    pub(crate) fn now_of(&self, i: u64) -> u64
-        requires { (Fits (ram_of self.now)) × ((i < numbers self.now.size) × (self.now.size ≤ 1099511627776)) }
-        ensures { result ≡ (seen self.now).now i }
+    // The physical page at which a page lies, none where it is blank.
+    pub(crate) fn place(&self, version: Version, n: u64) -> Option<u64>
+        requires { n < numbers self.now.card.sectors }
+        ensures { as_place result ≡ place_in version (view self.now 0 0) n }
     {
-        self.words[2 * i as usize] % PLACES
+        let place = self.cells[2 * n as usize + version.word()] % PLACES;
+        place.checked_sub(1)
     }
 
-    pub(crate) fn old_of(&self, i: u64) -> u64
-        requires { (Fits (ram_of self.now)) × ((i < numbers self.now.size) × (self.now.size ≤ 1099511627776)) }
-        ensures { result ≡ (seen self.now).old i }
+    pub(crate) fn set_place(&mut self, version: Version, n: u64, place: Option<u64>)
+        requires { (n < numbers self.old.card.sectors) × (as_place place < 274877906944) }
+        ensures { Sets self.old self.new (with_place version n (as_place place)) }
     {
-        self.words[2 * i as usize + 1] % PLACES
+        let at = 2 * n as usize + version.word();
+        let flags = self.cells[at] / PLACES;
+        self.cells[at] = number_of(place) + PLACES * flags;
     }
 
-    pub(crate) fn is_volatile(&self, i: u64) -> bool
-        requires { (Fits (ram_of self.now)) × ((i < numbers self.now.size) × (self.now.size ≤ 1099511627776)) }
-        ensures { result ≡ (seen self.now).vol i }
+    pub(crate) fn has(&self, flag: Flag, i: u64) -> bool
+        requires { i < numbers self.now.card.sectors }
+        ensures { result ≡ flag_in flag (view self.now 0 0) i }
     {
-        self.words[2 * i as usize] / PLACES % 2 == 1
+        self.cells[2 * i as usize + flag.word()] >> flag.bit() & 1 == 1
     }
 
-    // Whether the pages as they are have a physical page, and whether the synced ones have it.
-    pub(crate) fn is_busy(&self, i: u64) -> bool
-        requires { (Fits (ram_of self.now)) × ((i < numbers self.now.size) × (self.now.size ≤ 1099511627776)) }
-        ensures { result ≡ (seen self.now).busy i }
+    pub(crate) fn set(&mut self, flag: Flag, i: u64, on: bool)
+        requires { i < numbers self.old.card.sectors }
+        ensures { Sets self.old self.new (with_flag flag i on) }
     {
-        self.words[2 * i as usize] / PLACES / 2 % 2 == 1
+        let at = 2 * i as usize + flag.word();
+        self.cells[at] = with_bit(self.cells[at], flag.bit(), on);
     }
 
-    pub(crate) fn is_held(&self, i: u64) -> bool
-        requires { (Fits (ram_of self.now)) × ((i < numbers self.now.size) × (self.now.size ≤ 1099511627776)) }
-        ensures { result ≡ (seen self.now).held i }
+    // Whether neither the pages as they are nor the synced ones have a physical page.
+    pub(crate) fn is_vacant(&self, p: u64) -> bool
+        requires { p < rooms self.now.card.sectors }
+        ensures { result ≡ vacant (view self.now 0 0).busy (view self.now 0 0).held p }
     {
-        self.words[2 * i as usize + 1] / PLACES % 2 == 1
-    }
-
-    // Whether a node is to be written, and which of its slots counts.
-    pub(crate) fn is_dirty(&self, i: u64) -> bool
-        requires { (Fits (ram_of self.now)) × ((i < numbers self.now.size) × (self.now.size ≤ 1099511627776)) }
-        ensures { result ≡ (seen self.now).dirty i }
-    {
-        self.words[2 * i as usize] / PLACES / 4 % 2 == 1
-    }
-
-    pub(crate) fn slot_counts(&self, i: u64) -> bool
-        requires { (Fits (ram_of self.now)) × ((i < numbers self.now.size) × (self.now.size ≤ 1099511627776)) }
-        ensures { result ≡ (seen self.now).sel i }
-    {
-        self.words[2 * i as usize + 1] / PLACES / 2 % 2 == 1
-    }
-
-    pub(crate) fn set_now(&mut self, i: u64, v: u64)
-        requires { (Fits (ram_of self.old)) × ((i < numbers self.old.size) × ((self.old.size ≤ 1099511627776) × (v < 274877906944))) }
-        ensures { Fields self.new (with_now (at i v (seen self.old).now) (seen self.old)) }
-    {
-        let w = self.words[2 * i as usize];
-        self.words[2 * i as usize] = with_place(w, v);
-    }
-
-    pub(crate) fn set_old(&mut self, i: u64, v: u64)
-        requires { (Fits (ram_of self.old)) × ((i < numbers self.old.size) × ((self.old.size ≤ 1099511627776) × (v < 274877906944))) }
-        ensures { Fields self.new (with_old (at i v (seen self.old).old) (seen self.old)) }
-    {
-        let w = self.words[2 * i as usize + 1];
-        self.words[2 * i as usize + 1] = with_place(w, v);
-    }
-
-    pub(crate) fn set_volatile(&mut self, i: u64, b: bool)
-        requires { (Fits (ram_of self.old)) × ((i < numbers self.old.size) × (self.old.size ≤ 1099511627776)) }
-        ensures { Fields self.new (with_vol (at i b (seen self.old).vol) (seen self.old)) }
-    {
-        let w = self.words[2 * i as usize];
-        self.words[2 * i as usize] = with_flag0(w, b);
-    }
-
-    pub(crate) fn set_busy(&mut self, i: u64, b: bool)
-        requires { (Fits (ram_of self.old)) × ((i < numbers self.old.size) × (self.old.size ≤ 1099511627776)) }
-        ensures { Fields self.new (with_busy (at i b (seen self.old).busy) (seen self.old).left (seen self.old)) }
-    {
-        let w = self.words[2 * i as usize];
-        self.words[2 * i as usize] = with_flag1(w, b);
-    }
-
-    pub(crate) fn set_held(&mut self, i: u64, b: bool)
-        requires { (Fits (ram_of self.old)) × ((i < numbers self.old.size) × (self.old.size ≤ 1099511627776)) }
-        ensures { Fields self.new (with_held (at i b (seen self.old).held) (seen self.old).left (seen self.old)) }
-    {
-        let w = self.words[2 * i as usize + 1];
-        self.words[2 * i as usize + 1] = with_flag0(w, b);
-    }
-
-    pub(crate) fn set_dirty(&mut self, i: u64, b: bool)
-        requires { (Fits (ram_of self.old)) × ((i < numbers self.old.size) × (self.old.size ≤ 1099511627776)) }
-        ensures { Fields self.new (with_dirty (at i b (seen self.old).dirty) (seen self.old)) }
-    {
-        let w = self.words[2 * i as usize];
-        self.words[2 * i as usize] = with_flag2(w, b);
-    }
-
-    pub(crate) fn set_slot(&mut self, i: u64, b: bool)
-        requires { (Fits (ram_of self.old)) × ((i < numbers self.old.size) × (self.old.size ≤ 1099511627776)) }
-        ensures { Fields self.new (with_sel (at i b (seen self.old).sel) (seen self.old)) }
-    {
-        let w = self.words[2 * i as usize + 1];
-        self.words[2 * i as usize + 1] = with_flag1(w, b);
+        !self.has(Flag::Busy, p) && !self.has(Flag::Held, p)
     }
 }

@@ -1,11 +1,13 @@
 // Coming up: the root, and then the nodes of the map in order, each from the slot that the nodes before it say.
-ghost use Rattle.std.specs.Prelude.{◌≡◌};
+ghost use Rattle.std.specs.Prelude.{◌≡◌, MatchResult, None, Some};
+ghost use Rattle.std.specs.Fn.{FnOnceReturnsAtMut};
 ghost use Rattle.device.specs.Flow.{Runs};
 ghost use Rattle.paging.specs.Store.{nodes_flow, shut};
-ghost use Rattle.pages.specs.Of.{seen, Good};
-ghost use Rattle.pages.specs.Serving.{ComesUp, stored_of};
+ghost use Rattle.pages.specs.Of.{seen};
+ghost use Rattle.pages.specs.Serving.{ComesUp, size_fault, stored_of};
 
-use crate::geometry::{last_node_of, numbers_of, slot_of};
+use crate::flags::Flag;
+use crate::geometry::{Card, slot_of};
 use crate::memory::Memory;
 use crate::sectors::{label_of, root_known};
 use crate::store::{OpenError, Store};
@@ -15,18 +17,19 @@ const FEWEST_SECTORS: u64 = 8192;
 
 const MOST_SECTORS: u64 = 1 << 40;
 
-// The nodes below the root.
-fn take_nodes<D: Device>(device: &mut D, memory: &mut Memory)
-    requires { Good memory.old }
-    ensures good { Good memory.new }
-    ensures size { memory.new.size ≡ memory.old.size }
-    ensures runs { Runs D.Device.steps (nodes_flow memory.old.size (seen memory.old)) device.old device.new (seen memory.new) }
-{
-    let mut sector = [0u8; 512];
-    for i in 0..last_node_of(memory.size) {
-        let slot = memory.slot_counts(i + 1);
-        device.read(slot_of(i + 1, slot), &mut sector);
-        memory.take_node(i + 1, &sector);
+impl TryFrom<u64> for Card {
+    type Error = OpenError;
+
+    ghost try_from_gives = { λ sectors r. MatchResult r (λ card. (size_fault sectors ≡ None) × (card.sectors ≡ sectors)) (λ why. size_fault sectors ≡ Some why) };
+
+    fn try_from(sectors: u64) -> Result<Card, OpenError> {
+        if sectors < FEWEST_SECTORS {
+            return Err(OpenError::TooFewSectors);
+        }
+        if sectors > MOST_SECTORS {
+            return Err(OpenError::TooManySectors);
+        }
+        Ok(Card { sectors })
     }
 }
 
@@ -37,14 +40,8 @@ impl<'a, D: Device> Store<'a, D> {
     {
         Store {
             device,
-            memory: Memory {
-                size: 0,
-                words,
-                left: 0,
-                next: 0,
-            },
-            up: false,
-            label: [0u8; 248],
+            memory: Memory::new(words),
+            label: None,
         }
     }
 
@@ -52,14 +49,9 @@ impl<'a, D: Device> Store<'a, D> {
     pub fn open(&mut self, sectors: u64) -> Result<u64, OpenError>
         ensures { ComesUp D.Device.steps sectors self.old self.new result }
     {
-        self.up = false;
-        if sectors < FEWEST_SECTORS {
-            return Err(OpenError::TooFewSectors);
-        }
-        if sectors > MOST_SECTORS {
-            return Err(OpenError::TooManySectors);
-        }
-        if self.memory.count() < 2 * numbers_of(sectors) {
+        self.label = None;
+        let card = Card::try_from(sectors)?;
+        if !self.memory.words.suffices(card) {
             return Err(OpenError::TooFewWords);
         }
         let mut root = [0u8; 512];
@@ -67,18 +59,35 @@ impl<'a, D: Device> Store<'a, D> {
         if !root_known(&root) {
             return Ok(1);
         }
-        self.label = label_of(&root);
-        self.memory.clear(sectors);
+        self.memory.clear(card);
         self.memory.take_node(0, &root);
-        take_nodes(&mut self.device, &mut self.memory);
-        self.up = true;
-        Ok(last_node_of(sectors) + 1)
+        self.take_nodes();
+        self.label = Some(label_of(&root));
+        Ok(card.last_node() + 1)
     }
 
-    // The device, for who has lent it: to count what was asked of it, and to rehearse power cuts. Who writes to it has to open the store again.
-    pub fn device(&mut self) -> &mut D
-        ensures { result.now ≡ self.old.device }
+    // The nodes below the root.
+    fn take_nodes(&mut self)
+        ensures size { self.new.memory.words.card.sectors ≡ self.old.memory.words.card.sectors }
+        ensures runs { Runs D.Device.steps (nodes_flow self.old.memory.words.card.sectors (seen self.old.memory)) self.old.device self.new.device (seen self.new.memory) }
     {
-        &mut self.device
+        let mut sector = [0u8; 512];
+        for i in 0..self.memory.words.card.last_node() {
+            // The turn i of the flow is the node i + 1.
+            let node = i + 1;
+            let second = self.memory.words.has(Flag::Slot, node);
+            self.device.read(slot_of(node, second), &mut sector);
+            self.memory.take_node(node, &sector);
+        }
+    }
+
+    // What f does with the device, for who has lent it: to count what was asked of it, and to rehearse power cuts. The rest of the store stays as it is; who writes to the device has to open the store again.
+    pub fn with_device<R, F: FnOnce(&mut D) -> R>(&mut self, f: F) -> R
+        requires { F.IsAlwaysCallable f }
+        ensures called { FnOnceReturnsAtMut F.FnOnce f self.old.device result self.new.device }
+        ensures label { self.new.label ≡ self.old.label }
+        ensures memory { self.new.memory ≡ self.old.memory }
+    {
+        f(&mut self.device)
     }
 }

@@ -1,6 +1,5 @@
-// The store. While it is up its memory is in order, whatever the card holds.
-ghost use Rattle.std.specs.Prelude.{◌≡◌, true};
-ghost use Rattle.pages.specs.Of.{Good};
+// The store. Its memory is in order, whatever the card holds.
+ghost use Rattle.std.specs.Prelude.{◌≡◌, ◌<◌, is_some, true};
 
 use crate::memory::Memory;
 
@@ -8,15 +7,13 @@ use crate::memory::Memory;
 pub struct Store<'a, D> {
     pub(crate) device: D,
     pub(crate) memory: Memory<'a>,
-    // Up, on a card whose form is known: else nothing is written, and all pages are blank.
-    pub(crate) up: bool,
-    // The label of the last sync.
-    pub(crate) label: [u8; 248],
-    ghost good: { up ≡ true → Good memory },
+    // The label of the last sync, while the store is up on a card whose form is known: else nothing is written, and all pages are blank.
+    pub(crate) label: Option<[u8; 248]>,
+    ghost card: { is_some label ≡ true → 0 < memory.words.card.sectors },
 }
 
 // Why a store does not come up.
-#[derive(Clone, Copy)]
+#[derive(Clone, Copy, Debug, PartialEq, Eq)]
 pub enum OpenError {
     TooFewSectors,
     TooManySectors,

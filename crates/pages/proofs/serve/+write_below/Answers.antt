@@ -4,13 +4,14 @@ use Rattle.paging.specs.Layout.{slot, child}
 use Rattle.pages.specs.Of.{seen}
 use Rattle.pages.proofs.Writes.{child_turn, write-none, write-all, write-child, write-no-child}
 use Rattle.pages.proofs.serve.+write_below.Goals as goal
-use Rattle.pages.proofs.serve.+write_below.Goals.{then-is_marked, else-is_marked}
+use Rattle.pages.proofs.serve.+write_below.Goals.{then-depth-eq0-via-then-depth-eq0, then-depth-eq0-via-else-depth-eq0+then-node-inner, then-is_marked, else-is_marked}
 
 pub returns-then-depth-eq0 : goal.returns-then-depth-eq0
-returns-then-depth-eq0 g t c = write-none g.D.Device.steps (seen c.args.memory.now) c.args.depth c.args.node c.args.device.now (inl c.if-depth-eq0.true)
-
-pub returns-then-node-inner_of : goal.returns-then-node-inner_of
-returns-then-node-inner_of g t c = write-none g.D.Device.steps (seen c.args.memory.now) c.args.depth c.args.node c.args.device.now (inr (omega arith))
+returns-then-depth-eq0 g t c =
+    elim c.then-depth-eq0.branch [
+      | then-depth-eq0-via-then-depth-eq0 w ↦ write-none g.D.Device.steps (seen c.args.memory.now) c.args.depth c.args.node c.args.device.now (inl w.if-depth-eq0.true)
+      | then-depth-eq0-via-else-depth-eq0+then-node-inner w ↦ write-none g.D.Device.steps (seen c.args.memory.now) c.args.depth c.args.node c.args.device.now (inr (omega arith))
+    ]
 
 pub loop-b-init : goal.loop-b-init
 loop-b-init g t c = no-turn refl
@@ -21,11 +22,11 @@ loop-b-preserved g t c =
       | then-is_marked w ↦
           subst (λ (d : g.row.D.Denot). Turned g.D.Device.steps (child_turn (c.args.depth - 1) (seen c.args.memory.now) c.args.node) tt c.args.device.now (c.loop-b.b + 1) d tt) (sym w.device-is)
           (write-child g.D.Device.steps (seen c.args.memory.now) (c.args.depth - 1) c.args.node c.loop-b.b c.args.device.now c.loop-b.device c.loop-b.invariant w.write.new.self w.write_below.new.device w.slot_of-slot.result
-          w.node_sector.result (sym c.is_marked.ensures ∙ w.if-is_marked.true) (w.slot_of-slot.ensures ∙ ap (λ (b : Bool). slot (child c.args.node c.loop-b.b) (not b)) w.slot_counts.ensures) w.node_sector.ensures w.write.ensures
-          w.write_below.ensures)
+          w.node_sector.result (sym (rw c.child_of-child.ensures at c.is_marked.ensures) ∙ w.if-is_marked.true) ((rw c.child_of-child.ensures at w.slot_of-slot.ensures) ∙ ap (λ (b : Bool). slot (child c.args.node c.loop-b.b) (not b)) (rw c.child_of-child.ensures at w.has.ensures)) (rw c.child_of-child.ensures at w.node_sector.ensures) w.write.ensures
+          (rw c.child_of-child.ensures at w.write_below.ensures))
       | else-is_marked w ↦
           subst (λ (d : g.row.D.Denot). Turned g.D.Device.steps (child_turn (c.args.depth - 1) (seen c.args.memory.now) c.args.node) tt c.args.device.now (c.loop-b.b + 1) d tt) (sym w.device-is)
-          (write-no-child g.D.Device.steps (seen c.args.memory.now) (c.args.depth - 1) c.args.node c.loop-b.b c.args.device.now c.loop-b.device c.loop-b.invariant (sym c.is_marked.ensures ∙ w.if-is_marked.false))
+          (write-no-child g.D.Device.steps (seen c.args.memory.now) (c.args.depth - 1) c.args.node c.loop-b.b c.args.device.now c.loop-b.device c.loop-b.invariant (sym (rw c.child_of-child.ensures at c.is_marked.ensures) ∙ w.if-is_marked.false))
     ]
 
 pub returns : goal.returns

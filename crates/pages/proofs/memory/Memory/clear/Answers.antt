@@ -1,9 +1,10 @@
-use Rattle.std.proofs.Common.{◌≡◌, length, replicate}
+use Rattle.std.proofs.Common.{◌∙◌}
 use Rattle.pages.proofs.Kept.{bare-good}
+use Rattle.pages.specs.Of.{view}
 use Rattle.pages.proofs.memory.Memory.clear.Goals as goal
 
-pub returns : goal.returns
-returns c =
-    let f : c.fill.new.self ≡ replicate (length c.args.self.now.words.now) 0 = c.fill.ensures.after (λ y e. e) in
-    let e = c.rooms_of-rooms.ensures in
-    bare-good c.args.size (length c.args.self.now.words.now) _ (λ j. record { size = c.args.size; words = f j; left = e j; next = e j }) c.requires.0 c.requires.1.0 c.requires.1.1
+pub invariant_of-self : goal.invariant_of-self
+invariant_of-self c =
+    let w = c.clear.new.self in
+    let g = bare-good (view w c.rooms-self.result c.rooms-self-2.result) c.args.card.sectors ((λ j. view w (c.rooms-self.ensures j) (c.rooms-self-2.ensures j)) ∙ c.clear.ensures) in
+    record { places = g.0; inside = g.1 }

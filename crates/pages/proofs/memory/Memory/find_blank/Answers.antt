@@ -1,16 +1,15 @@
-use Rattle.std.proofs.Common.{sym, ◌∙◌, arith}
-use Rattle.pages.specs.Of.{seen}
-use Rattle.pages.proofs.Looks.{blank-start, blank-here, blank-more, blank_none}
+use Rattle.std.proofs.Common.{◌-◌, ℕ, Bool, eqb, refl, sym, ap, ◌∙◌, rules, tests}
+use Rattle.std.proofs.lemmas.Iterator.{YieldsList-from_range}
+use Rattle.std.proofs.lemmas.Iterator.Adapters.{option_map_id}
+use Rattle.std.proofs.lemmas.Iterator.Search.{find_from_yields_List}
+use Rattle.pages.specs.Of.{page_told, seen}
+use Rattle.pages.proofs.Looks.{found-blank}
 use Rattle.pages.proofs.memory.Memory.find_blank.Goals as goal
 
-pub loop-i-init : goal.loop-i-init
-loop-i-init c = blank-start (seen c.args.self.now) c.args.count c.args.first
-
-pub returns-then-now_of-eq0 : goal.returns-then-now_of-eq0
-returns-then-now_of-eq0 c = blank-here (seen c.args.self.now) c.args.count c.args.first c.loop-i.i (omega arith) (sym c.now_of.ensures ∙ c.if-now_of-eq0.true) c.loop-i.invariant
-
-pub loop-i-preserved : goal.loop-i-preserved
-loop-i-preserved c = blank-more (seen c.args.self.now) c.args.count c.args.first c.loop-i.i (omega arith) (λ e. c.if-now_of-eq0.false (c.now_of.ensures ∙ e)) c.loop-i.invariant
-
-pub returns : goal.returns
-returns c = blank_none (seen c.args.self.now) c.args.count c.args.first c.loop-i.i (omega arith) c.loop-i.invariant
+pub returns-clause-told : goal.returns-clause-told
+returns-clause-told c =
+    let m = seen c.args.self.now in
+    let t : ℕ → Bool = λ n. eqb (m.now n) 0 in
+    let n = c.args.to - c.args.from in
+    let e = find_from_yields_List t _ _ c.find.result c.find.ensures.ran (YieldsList-from_range c.args.from c.args.to n refl refl) (λ x b q k. search (rules, tests)) in
+    ap page_told (sym (option_map_id c.find.result) ∙ e) ∙ found-blank m n c.args.from

@@ -1,20 +1,14 @@
-use Rattle.std.proofs.Common.{◌≡◌, ℕ, ◌-◌, Bool, true, false, arith}
+use Rattle.std.proofs.Common.{ℕ, Bool, sym, ap, ◌∙◌, rules, tests}
+use Rattle.std.proofs.lemmas.Iterator.Adapters.{option_map_id}
+use Rattle.std.proofs.lemmas.Iterator.Search.{find_from_yields_List}
 use Rattle.paging.specs.Memory.{vacant}
+use Rattle.pages.specs.Flags.{as_place}
 use Rattle.pages.specs.Of.{seen}
-use Rattle.pages.proofs.Looks.{found_here, found-less, found_none}
+use Rattle.pages.proofs.Looks.{found-down, yields_down}
 use Rattle.pages.proofs.memory.Memory.find_down.Goals as goal
 
-pub returns-then-is_vacant : goal.returns-then-is_vacant
-returns-then-is_vacant c =
-    let t : ℕ → Bool = vacant (seen c.args.self.now).busy (seen c.args.self.now).held in
-    let e : t (c.loop-k.k - 1) ≡ true = cc in
-    found_here t c.loop-k.k c.args.below (omega arith) c.loop-k.invariant.1 e
-
-pub loop-k-preserved : goal.loop-k-preserved
-loop-k-preserved c =
-    let t : ℕ → Bool = vacant (seen c.args.self.now).busy (seen c.args.self.now).held in
-    let e : t (c.loop-k.k - 1) ≡ false = cc in
-    (omega arith, found-less t c.loop-k.k c.args.below (omega arith) c.loop-k.invariant.1 e)
-
 pub returns : goal.returns
-returns c = found_none (vacant (seen c.args.self.now).busy (seen c.args.self.now).held) c.loop-k.k c.args.below (omega arith) c.loop-k.invariant.1
+returns c =
+    let t : ℕ → Bool = vacant (seen c.args.self.now).busy (seen c.args.self.now).held in
+    let e = find_from_yields_List t _ _ c.find.result c.find.ensures.ran (yields_down c.args.below c.rev.ensures.source) (λ x b q k. search (rules, tests)) in
+    ap as_place (sym (option_map_id c.find.result) ∙ e) ∙ found-down t c.args.below

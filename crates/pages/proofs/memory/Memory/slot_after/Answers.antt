@@ -4,19 +4,21 @@ use Rattle.pages.specs.Of.{seen}
 use Rattle.pages.proofs.Kept.{selected-beyond}
 use Rattle.pages.proofs.Looks.{selected-root, selected-other}
 use Rattle.pages.proofs.memory.Memory.slot_after.Goals as goal
+use Rattle.pages.proofs.memory.Memory.slot_after.Goals.{then-node-eq0-via-then-node-eq0, then-node-eq0-via-else-node-eq0+then-node-last_node}
 
 pub returns-then-node-eq0 : goal.returns-then-node-eq0
-returns-then-node-eq0 c = selected-root (seen c.args.self.now) c.args.node c.if-node-eq0.true
+returns-then-node-eq0 c =
+    elim c.then-node-eq0.branch [
+      | then-node-eq0-via-then-node-eq0 w ↦ selected-root (seen c.args.self.now) c.args.node w.if-node-eq0.true
+      | then-node-eq0-via-else-node-eq0+then-node-last_node w ↦ sym (selected-beyond (seen c.args.self.now) c.args.node c.args.self.now.inside (omega arith))
+    ]
 
-pub returns-then-node-last_node_of : goal.returns-then-node-last_node_of
-returns-then-node-last_node_of c = sym (selected-beyond (seen c.args.self.now) c.args.node c.requires.2 (omega arith))
-
-pub returns-then-is_dirty : goal.returns-then-is_dirty
-returns-then-is_dirty c =
+pub returns-then-has : goal.returns-then-has
+returns-then-has c =
     let m = seen c.args.self.now in
-    ap not c.slot_counts-slot.ensures ∙ (sym (cond-true (m.dirty c.args.node) (not (m.sel c.args.node)) (m.sel c.args.node) (cc)) ∙ selected-other m c.args.node (omega arith))
+    ap not c.has-second.ensures ∙ (sym (cond-true (m.dirty c.args.node) (not (m.sel c.args.node)) (m.sel c.args.node) (cc)) ∙ selected-other m c.args.node (omega arith))
 
-pub returns-else-is_dirty : goal.returns-else-is_dirty
-returns-else-is_dirty c =
+pub returns-else-has : goal.returns-else-has
+returns-else-has c =
     let m = seen c.args.self.now in
-    c.slot_counts-slot.ensures ∙ (sym (cond-false (m.dirty c.args.node) (not (m.sel c.args.node)) (m.sel c.args.node) (cc)) ∙ selected-other m c.args.node (omega arith))
+    c.has-second.ensures ∙ (sym (cond-false (m.dirty c.args.node) (not (m.sel c.args.node)) (m.sel c.args.node) (cc)) ∙ selected-other m c.args.node (omega arith))

@@ -4,16 +4,15 @@ use Rattle.pages.specs.Of.{seen}
 use Rattle.pages.proofs.Served.{get-blank, get-read}
 use Rattle.pages.proofs.serve.StorePages.get.Goals as goal
 
-pub returns-then-place-eq0 : goal.returns-then-place-eq0
+pub returns-in-None : goal.returns-in-None
 unfolding store_flow
-returns-then-place-eq0 g c =
+returns-in-None g c =
     let s = c.args.self.now in
     let f : c.fill.new.self ≡ replicate 4096 0 = c.fill.ensures.after (λ y e. e) ∙ ap (λ (n : ℕ). replicate n 0) c.told-into in
-    get-blank g.D.Device.steps s.up s.label (seen s.memory) s.device c.args.n c.fill.new.self (sym c.place_of-place.ensures ∙ c.if-place-eq0.true) f
+    get-blank g.D.Device.steps s.label (seen s.memory) s.device c.args.n c.fill.new.self (sym c.in-None.ensures) f
 
-pub returns : goal.returns
+pub returns-in-Some : goal.returns-in-Some
 unfolding store_flow
-returns g c =
+returns-in-Some g c =
     let s = c.args.self.now in
-    get-read g.D.Device.steps s.up s.label (seen s.memory) s.device c.args.n c.place_of-place.result c.home_of-home.result c.read_page.new.page c.read_page.new.device c.place_of-place.ensures
-    c.if-place-eq0.false c.home_of-home.ensures c.read_page.ensures
+    get-read g.D.Device.steps s.label (seen s.memory) s.device c.args.n c.in-Some.p c.home-home.result c.read_page.new.page c.read_page.new.device c.in-Some.ensures c.home-home.ensures c.read_page.ensures

@@ -7,4 +7,4 @@ use Rattle.pages.proofs.serve.StorePages.label.Goals as goal
 
 pub returns : goal.returns
 unfolding store_flow
-returns g c = let s = c.args.self.now in (refl, λ j. (label-told s.up s.label (seen s.memory) j, stored_of s))
+returns g c = let s = c.args.self.now in (refl, λ j. (label-told s.label (seen s.memory) j, stored_of s))

@@ -1,12 +1,14 @@
+use Rattle.std.proofs.Common.{not, ap, ◌∙◌}
 use Rattle.paging.specs.Store.{store_flow}
 use Rattle.pages.specs.Of.{seen}
 use Rattle.pages.proofs.Served.{spare-up, spare-down}
 use Rattle.pages.proofs.serve.StorePages.spare.Goals as goal
 
-pub returns-then-self : goal.returns-then-self
+pub returns-then-is_none-clause-told : goal.returns-then-is_none-clause-told
 unfolding store_flow
-returns-then-self g c = let s = c.args.self.now in spare-up g.D.Device.steps s.up s.label (seen s.memory) s.device c.args.from c.spare_from.result c.if-self.true c.spare_from.ensures
+returns-then-is_none-clause-told g c = let s = c.args.self.now in spare-down g.D.Device.steps s.label (seen s.memory) s.device c.args.from (c.is_none.ensures ∙ ap not c.if-is_none.true)
 
-pub returns-else-self : goal.returns-else-self
+pub returns-clause-told : goal.returns-clause-told
 unfolding store_flow
-returns-else-self g c = let s = c.args.self.now in spare-down g.D.Device.steps s.up s.label (seen s.memory) s.device c.args.from c.if-self.false
+returns-clause-told g c =
+    let s = c.args.self.now in spare-up g.D.Device.steps s.label (seen s.memory) s.device c.args.from _ (c.is_none.ensures ∙ ap not c.if-is_none.false) c.spare_from.ensures.told

@@ -1,26 +1,22 @@
-use Rattle.std.proofs.Common.{arith}
+use Rattle.std.proofs.Common.{sym, ◌∙◌}
 use Rattle.paging.specs.Store.{store_flow}
 use Rattle.pages.specs.Of.{seen}
-use Rattle.pages.proofs.Served.{volatile-down, volatile-none, volatile-blank, volatile-moved}
+use Rattle.pages.proofs.Served.{volatile-none, volatile-blank, volatile-moved}
 use Rattle.pages.proofs.serve.StorePages.volatile.Goals as goal
 
-pub returns-then-not-self : goal.returns-then-not-self
+pub returns-then-not-has : goal.returns-then-not-has
 unfolding store_flow
-returns-then-not-self g c = let s = c.args.self.now in volatile-down g.D.Device.steps s.up s.label (seen s.memory) s.device c.args.n c.if-not-self.true
+returns-then-not-has g c = let s = c.args.self.now in volatile-none g.D.Device.steps s.label (seen s.memory) s.device c.args.n (sym c.has.ensures ∙ c.if-not-has.true)
 
-pub returns-then-n-numbers_of : goal.returns-then-n-numbers_of
+pub returns-then-is_some : goal.returns-then-is_some
 unfolding store_flow
-returns-then-n-numbers_of g c = let s = c.args.self.now in volatile-none g.D.Device.steps s.up s.label (seen s.memory) s.device c.args.n c.if-not-self.false (omega arith)
-
-pub returns-then-place-ne0 : goal.returns-then-place-ne0
-unfolding store_flow
-returns-then-place-ne0 g c =
+returns-then-is_some g c =
     let s = c.args.self.now in
-    volatile-moved g.D.Device.steps s.up s.label (seen s.memory) s.device c.args.n c.now_of-place.result (seen c.move_page.new.self) c.if-not-self.false (omega arith) c.now_of-place.ensures c.if-place-ne0.true
+    volatile-moved g.D.Device.steps s.label (seen s.memory) s.device c.args.n c.place-place.result (seen c.move_page.new.self) (sym c.has.ensures ∙ c.if-not-has.false) c.place-place.ensures (sym c.is_some.ensures ∙ c.if-is_some.true)
     c.move_page.ensures.is
 
-pub returns-else-place-ne0 : goal.returns-else-place-ne0
+pub returns-else-is_some : goal.returns-else-is_some
 unfolding store_flow
-returns-else-place-ne0 g c =
+returns-else-is_some g c =
     let s = c.args.self.now in
-    volatile-blank g.D.Device.steps s.up s.label (seen s.memory) s.device c.args.n c.now_of-place.result c.if-not-self.false (omega arith) c.now_of-place.ensures c.if-place-ne0.false
+    volatile-blank g.D.Device.steps s.label (seen s.memory) s.device c.args.n c.place-place.result (sym c.has.ensures ∙ c.if-not-has.false) c.place-place.ensures (sym c.is_some.ensures ∙ c.if-is_some.false)

@@ -1,8 +1,0 @@
-use Rattle.pages.specs.Of.{ram_of}
-use Rattle.pages.proofs.Flags.{busy-set}
-use Rattle.pages.proofs.memory.Memory.set_busy.Goals as goal
-
-pub returns : goal.returns
-returns c =
-    let p = busy-set (ram_of c.args.self.now) c.args.i c.with_flag1.result c.args.b c.requires.0 c.requires.1.0 c.with_flag1.ensures in
-    record { is = p.0; fits = p.1 }
