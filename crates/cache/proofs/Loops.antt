@@ -1,58 +1,45 @@
--- Loops over the tags.
+-- The frame that has a page, found from the last one on.
 -- Assumes nothing.
-use Rattle.std.proofs.Common.{◌≡◌, ℕ, suc, ◌+◌, ◌-◌, ◌<◌, Bool, true, false, cond, List, [], ◌∷◌, ◌++◌, length, get_or, take, set, replicate, Some, None, Option, sym, refl, ap, ◌∙◌, add-one, arith, take_all, take-suc-set}
-use lib.ListN.{replicate-append-replicate}
-use Rattle.paging.specs.Layout.{one}
+use Rattle.std.proofs.Common.{map-id, ◌≡◌, ℕ, zero, suc, ◌-◌, ◌<◌, Bool, true, false, List, length, get_or, Some, None, Option, refl, sym, ap, ◌∙◌, subst, inl, inr, arith}
+use Rattle.std.proofs.lemmas.Bool.{cases_eq}
+use Rattle.std.specs.Borrow.{Bor}
+use Rattle.std.specs.List.{AllZip}
+use Rattle.std.proofs.lemmas.Slice.Zip.{AllZip-map}
+use Rattle.std.specs.Option.{option_map, IsSomeAnd}
 use Rattle.caching.specs.declared.Tag.{Tag}
-use Rattle.caching.specs.Frames.{free, holds, find_tag, count_marked}
+use Rattle.caching.specs.declared.Tag.TheVariants.{Free}
+use Rattle.caching.specs.Frames.{holds, find_tag}
 
 module _ (ts : List Tag) (n : ℕ) where
-  find-step : (i : ℕ) (b : Bool) → holds (get_or ts i free) n ≡ b → find_tag (suc i) ts n ≡ cond b (Some i) (find_tag i ts n)
+  abbrev Not : ℕ → ℕ → Type 0
+  Not i c = (k : ℕ) → i < k → k < c → holds (get_or ts k Free) n ≡ false
+
+  found_none : (c : ℕ) → ((k : ℕ) → k < c → holds (get_or ts k Free) n ≡ false) → None ≡ find_tag c ts n
   unfolding find_tag
-  find-step i b e = rw e
+  found_none zero f = refl
+  found_none (suc c) f = rw (f c (omega arith)) (found_none c (λ k l. f k (omega arith)))
 
-  last : (k : ℕ) → 0 < k → k ≡ suc (k - 1)
-  last k l = omega arith
-
-  pub found_here : (k c : ℕ) → 0 < k → find_tag k ts n ≡ find_tag c ts n → holds (get_or ts (k - 1) free) n ≡ true → Some (k - 1) ≡ find_tag c ts n
-  found_here k c l e h = sym (find-step (k - 1) true h) ∙ (ap (λ k. find_tag k ts n) (sym (last k l)) ∙ e)
-
-  pub found-less : (k c : ℕ) → 0 < k → find_tag k ts n ≡ find_tag c ts n → holds (get_or ts (k - 1) free) n ≡ false → find_tag (k - 1) ts n ≡ find_tag c ts n
-  found-less k c l e h = sym (find-step (k - 1) false h) ∙ (ap (λ k. find_tag k ts n) (sym (last k l)) ∙ e)
-
-  pub found_none : (k c : ℕ) → k ≡ 0 → find_tag k ts n ≡ find_tag c ts n → None ≡ find_tag c ts n
+  found_some : (c i : ℕ) → i < c → holds (get_or ts i Free) n ≡ true → Not i c → Some i ≡ find_tag c ts n
   unfolding find_tag
-  found_none k c l e = ap (λ k. find_tag k ts n) (sym l) ∙ e
+  found_some zero i l h f = absurd (omega arith)
+  found_some (suc c) i l h f =
+      elim (cases_eq i c) [
+        | inl e ↦ rw (ap (λ k. holds (get_or ts k Free) n) (sym e) ∙ h) (ap Some e)
+        | inr e ↦ rw (f c (omega arith) (omega arith)) (found_some c i (omega arith) h (λ k a b. f k a (omega arith)))
+      ]
 
-pub some_is : {x y : ℕ} → ◌≡◌ {A = Option ℕ} (Some x) (Some y) → x ≡ y
-some_is e = cc
+  pub found : (c : ℕ) (r : Option ℕ) → (r ≡ None → (k : ℕ) → k < c → holds (get_or ts k Free) n ≡ false) → ((i : ℕ) → r ≡ Some i → (i < c) × (holds (get_or ts i Free) n ≡ true) × Not i c) → r ≡ find_tag c ts n
+  found c None f g = found_none c (f refl)
+  found c (Some i) f g = let (l, h, k) = g i refl in found_some c i l h k
 
-pub none-some : {x : ℕ} → ◌≡◌ {A = Option ℕ} None (Some x) → ⊥
-none-some e = let z : ◌≡◌ {A = ℕ} 0 1 = cc in omega arith
+-- what the item at a place from the back is
+of-seen : (o : Option (Bor Tag)) (t : Tag) (n : ℕ) (b : Bool) (Q : Bor Tag → Type 0) → option_map (λ y. y.now) o ≡ Some t → IsSomeAnd o Q → ((y : Bor Tag) → Q y → holds y.now n ≡ b) → holds t n ≡ b
+of-seen (Some y) t n b Q e q f = let d : y.now ≡ t = cc in ap (λ t. holds t n) (sym d) ∙ f y q
+of-seen None t n b Q e q f = absurd q
 
--- COUNTING
-module _ (ts : List Tag) where
-  count-step : (i : ℕ) (b : Bool) → (get_or ts i free).marked ≡ b → count_marked (i + 1) ts ≡ one b + count_marked i ts
-  unfolding count_marked
-  count-step i b e = rw (add-one, e)
-
-  pub counted_none : 0 ≡ count_marked 0 ts
-  unfolding count_marked
-  counted_none = refl
-
-  pub counted-one : (i k : ℕ) → k ≡ count_marked i ts → (get_or ts i free).marked ≡ true → k + 1 ≡ count_marked (i + 1) ts
-  unfolding one
-  counted-one i k e h = let a = count-step i true h in omega arith
-
-  pub counted_same : (i k : ℕ) → k ≡ count_marked i ts → (get_or ts i free).marked ≡ false → k ≡ count_marked (i + 1) ts
-  unfolding one
-  counted_same i k e h = let a = count-step i false h in omega arith
+pub from-back : (xs ys : List Tag) (at : ℕ → Option (Bor Tag)) (k n : ℕ) (b : Bool) (Q : Bor Tag → Type 0) → ys ≡ xs → option_map (λ y. y.now) (at (length ys - 1 - k)) ≡ Some (get_or ys k Free) → IsSomeAnd (at (length xs - 1 - k)) Q → ((y : Bor Tag) → Q y → holds y.now n ≡ b) → holds (get_or xs k Free) n ≡ b
+from-back xs ys at k n b Q e q s f = of-seen (at (length xs - 1 - k)) (get_or xs k Free) n b Q (subst (λ ys. option_map (λ y. y.now) (at (length ys - 1 - k)) ≡ Some (get_or ys k Free)) e q) s f
 
 -- CLEARING
-module _ {A : Type 0} (b : A) where
-  pub cleared_more : (l : List A) (i : ℕ) → i < length l → take i l ≡ replicate i b → take (i + 1) (set l i b) ≡ replicate (i + 1) b
-  cleared_more l i h e =
-      rw add-one (take-suc-set l i b h ∙ (ap (λ (xs : List A). xs ++ (b ∷ [])) e ∙ (replicate-append-replicate i 1 b ∙ ap (λ (k : ℕ). replicate k b) (add-one i))))
-
-  pub cleared-all : (l : List A) (i n : ℕ) → length l ≡ n → i ≡ n → take i l ≡ replicate i b → l ≡ replicate n b
-  cleared-all l i n h e q = sym (take_all i l (omega arith)) ∙ (q ∙ ap (λ (k : ℕ). replicate k b) e)
+pub same-items : (xs ys : List ℕ) → AllZip (λ x y. y ≡ x) xs ys → ys ≡ xs
+same-items xs ys z = AllZip-map (λ x. x) xs ys z ∙ map-id xs

@@ -1,16 +1,21 @@
 // The lent frames, and what each holds.
+ghost use Rattle.std.specs.Prelude.{◌<◌, ◌≤◌, length};
+
 use caching::Tag;
 
 // There are tags for so many frames; more are not used.
 pub const MOST_FRAMES: usize = 128;
 
+// Memory is lent as whole pages, and the table of what each holds is of fixed size: so `bytes` and `tags` stand side by side.
 #[derive(Drop)]
 pub(crate) struct Frames<'f> {
-    // How many pages there are, and how many frames are used.
+    // How many pages there are.
     pub(crate) numbers: u64,
-    pub(crate) count: usize,
     pub(crate) bytes: &'f mut [[u8; 4096]],
-    pub(crate) tags: [Tag; 128],
+    pub(crate) tags: [Tag; MOST_FRAMES],
     // The frame that is given up next.
     pub(crate) hand: usize,
+    // There is a tag for each frame, and the hand is at a frame.
+    ghost tagged: { length bytes.now ≤ 128 },
+    ghost handed: { 0 < length bytes.now → hand < length bytes.now },
 }

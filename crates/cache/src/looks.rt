@@ -1,141 +1,93 @@
-// Which frame has a page, and which are marked.
-ghost use Rattle.std.specs.Prelude.{◌≡◌, ℕ, ◌<◌, ◌≤◌, length, replicate, Some};
-ghost use Rattle.paging.specs.Pages.{blank_page};
-ghost use Rattle.caching.specs.Frames as frame;
-ghost use Rattle.cache.specs.Of.{seen, Good};
-
+// Which frame has a page, and which are marked. That a frame is one of these stands in each contract: a type for its number would have to hold how many there are.
 use crate::frames::{Frames, MOST_FRAMES};
 use caching::Tag;
 
-const FREE: Tag = Tag {
-    used: false,
-    page: 0,
-    marked: false,
-    volatile: false,
-};
-
-pub(crate) fn clean_tag(page: u64) -> Tag
-    ensures { result ≡ frame.clean page }
-{
-    Tag {
-        used: true,
-        page,
-        marked: false,
-        volatile: false,
-    }
-}
-
-pub(crate) fn marked_tag(page: u64, volatile: bool) -> Tag
-    ensures { result ≡ frame.marked page volatile }
-{
-    Tag {
-        used: true,
-        page,
-        marked: true,
-        volatile,
-    }
-}
-
-// Whether a frame with this tag has the page n.
-fn holds(tag: Tag, n: u64) -> bool
-    ensures { result ≡ frame.holds tag n }
-{
-    tag.used && tag.page == n
-}
-
-fn clear(bytes: &mut [[u8; 4096]])
-    ensures { bytes.new ≡ replicate (length bytes.old) blank_page }
-{
-    for i in 0..bytes.len() {
-        bytes[i] = [0u8; 4096];
-    }
-}
-
 impl<'f> Frames<'f> {
+    ghost use Rattle.std.specs.Prelude.{◌≡◌, ◌<◌, length, IfSome};
+    ghost use Rattle.caching.specs.Frames as frame;
+    ghost use Rattle.cache.specs.Of.{seen};
+
     // Of so many pages none is in a frame.
-    pub(crate) fn new(numbers: u64, bytes: &'f mut [[u8; 4096]]) -> Frames<'f>
-        ensures is { seen result ≡ frame.fresh numbers (length bytes.old) }
-        ensures good { Good result }
+    pub(crate) fn new(numbers: u64, lent: &'f mut [[u8; 4096]]) -> Frames<'f>
+        ensures { seen result ≡ frame.fresh numbers (length lent.old) }
     {
-        clear(bytes);
-        let count = bytes.len().min(MOST_FRAMES);
-        Frames {
+        let count = lent.len().min(MOST_FRAMES);
+        let (bytes, _) = lent.split_at_mut(count);
+        let mut frames = Frames {
             numbers,
-            count,
             bytes,
-            tags: [FREE; 128],
+            tags: [Tag::Free; MOST_FRAMES],
             hand: 0,
-        }
+        };
+        frames.reset(numbers);
+        frames
     }
 
     // Nothing is in a frame any more; there are so many pages from now on.
     pub(crate) fn reset(&mut self, numbers: u64)
-        ensures is { seen self.new ≡ frame.fresh numbers (length self.old.bytes.now) }
-        ensures good { Good self.new }
+        ensures { seen self.new ≡ frame.fresh numbers (length self.old.bytes.now) }
     {
-        clear(self.bytes);
+        self.bytes.fill([0; 4096]);
         self.numbers = numbers;
-        self.count = self.bytes.len().min(MOST_FRAMES);
-        self.tags = [FREE; 128];
+        self.tags = [Tag::Free; MOST_FRAMES];
         self.hand = 0;
+    }
+
+    pub(crate) fn count(&self) -> usize
+        ensures { result ≡ length self.now.bytes.now }
+    {
+        self.bytes.len()
+    }
+
+    // The page in a frame.
+    pub(crate) fn page(&self, i: usize) -> &[u8; 4096]
+        requires { i < length self.now.bytes.now }
+        ensures { result.now ≡ frame.frame_at (seen self.now) i }
+    {
+        let bytes = &*self.bytes;
+        &bytes[i]
     }
 
     // The frame that has a page.
     pub(crate) fn find(&self, n: u64) -> Option<usize>
-        requires { Good self.now }
         ensures is { result ≡ frame.find (seen self.now) n }
-        ensures within { (i : ℕ) → result ≡ Some i → i < self.now.count }
+        ensures within { IfSome result (λ i. i < length self.now.bytes.now) }
     {
-        let mut i = self.count;
-        while i > 0 {
-            i -= 1;
-            if holds(self.tags[i], n) {
-                return Some(i);
-            }
-        }
-        None
+        self.tags[..self.bytes.len()]
+            .iter()
+            .rposition(|tag| tag.has_page(n))
     }
 
     // How many frames are marked.
     pub(crate) fn marks(&self) -> u64
-        requires { Good self.now }
         ensures { result ≡ frame.marks (seen self.now) }
     {
-        let mut marks = 0;
-        for i in 0..self.count {
-            if self.tags[i].marked {
-                marks += 1;
-            }
-        }
-        marks
+        self.tags[..self.bytes.len()]
+            .iter()
+            .filter(|tag| tag.is_marked())
+            .count() as u64
     }
 
     pub(crate) fn is_marked(&self, n: u64) -> bool
-        requires { Good self.now }
         ensures { result ≡ frame.is_marked (seen self.now) n }
     {
-        match self.find(n) {
-            Some(i) => self.tags[i].marked,
-            None => false,
-        }
+        let tags = &self.tags;
+        self.find(n).is_some_and(|i| tags[i].is_marked())
     }
 
     // A page is let go.
     pub(crate) fn drop_page(&mut self, n: u64)
-        requires { Good self.old }
-        ensures is { seen self.new ≡ frame.dropped n (seen self.old) }
-        ensures good { Good self.new }
+        ensures { seen self.new ≡ frame.dropped n (seen self.old) }
     {
         if let Some(i) = self.find(n) {
-            self.tags[i] = FREE;
+            self.tags[i] = Tag::Free;
         }
     }
 
     // A page comes into a frame.
     pub(crate) fn fill(&mut self, i: usize, tag: Tag, page: &[u8; 4096])
-        requires { (Good self.old) × (i < self.old.count) }
-        ensures is { seen self.new ≡ frame.filled i tag page.now (seen self.old) }
-        ensures good { Good self.new }
+        requires { i < length self.old.bytes.now }
+        ensures { seen self.new ≡ frame.filled i tag page.now (seen self.old) }
     {
         self.bytes[i] = *page;
         self.tags[i] = tag;
@@ -143,11 +95,10 @@ impl<'f> Frames<'f> {
 
     // The hand goes to the next frame, and then to the first one again.
     pub(crate) fn turn(&mut self)
-        requires { (Good self.old) × (0 < self.old.count) }
-        ensures is { seen self.new ≡ frame.turned (seen self.old) }
-        ensures good { Good self.new }
+        requires { 0 < length self.old.bytes.now }
+        ensures { seen self.new ≡ frame.turned (seen self.old) }
     {
         let next = self.hand + 1;
-        self.hand = if next < self.count { next } else { 0 };
+        self.hand = if next < self.bytes.len() { next } else { 0 };
     }
 }

@@ -1,104 +1,48 @@
-// Puts: into a frame while something is left, else below.
-ghost use Rattle.std.specs.Prelude.{◌≡◌};
+// Puts: into a frame while something is left, else below. What is put goes along as number, bytes and how, as the calls of `Pages` have it: a struct for the three would be taken apart at each step.
+ghost use Rattle.std.specs.Prelude.{◌≡◌, is_ok};
 ghost use Rattle.device.specs.Flow.{Runs};
-ghost use Rattle.paging.specs.Pages.{blank_page, same_bytes};
-ghost use Rattle.caching.specs.Cache.{stays, put_with, put, through_with, put_through};
-ghost use Rattle.cache.specs.Of.{seen, Good};
+ghost use Rattle.caching.specs.Cache.{staying, put_with, put};
+ghost use Rattle.cache.specs.Serving.{cache_of};
 
-use crate::back::{frame_for, make_room, put_below};
-use crate::frames::Frames;
-use crate::looks::marked_tag;
-use pages::Pages;
+use crate::back::put_below;
+use crate::cached::Cached;
+use caching::{How, Tag};
+use pages::serve::is_blank;
+use pages::{Pages, Refused};
 
-fn is_blank(bytes: &[u8; 4096]) -> bool
-    ensures { result ≡ same_bytes bytes.now blank_page }
-{
-    *bytes == [0u8; 4096]
-}
-
-// Whether a put stays in a frame, with so many left below. What is blank does not: it takes no room there.
-fn stays(held: &Frames, bytes: &[u8; 4096], left: u64) -> bool
-    requires { Good held.now }
-    ensures { result ≡ stays bytes.now left (seen held.now) }
-{
-    !is_blank(bytes) && held.count > 0 && held.marks() < left
-}
-
-fn put_with<P: Pages>(
-    pages: &mut P,
-    held: &mut Frames,
-    n: u64,
-    bytes: &[u8; 4096],
-    volatile: bool,
-    left: u64,
-) -> bool
-    requires { Good held.old }
-    ensures runs { Runs P.Pages.goes (put_with n bytes.now volatile left (seen held.old)) pages.old pages.new (result, seen held.new) }
-    ensures good { Good held.new }
-{
-    if stays(held, bytes, left) {
-        let i = frame_for(pages, held, n);
-        held.fill(i, marked_tag(n, volatile), bytes);
-        return true;
+impl<'f, P: Pages> Cached<'f, P> {
+    // The tag with which a put stays in a frame, if it does, with so many left below. What is blank does not: it takes no room there.
+    fn staying(&self, n: u64, bytes: &[u8; 4096], how: How, left: u64) -> Option<Tag>
+        ensures { result ≡ staying n bytes.now how left (cache_of self.now) }
+    {
+        let frames = &self.frames;
+        if is_blank(bytes) || frames.count() == 0 || left <= frames.marks() {
+            return None;
+        }
+        how.tag(n)
     }
-    make_room(pages, held, left);
-    let done = put_below(pages, n, bytes, volatile);
-    if done {
-        held.drop_page(n);
-    }
-    done
-}
 
-pub(crate) fn put_page<P: Pages>(
-    pages: &mut P,
-    held: &mut Frames,
-    n: u64,
-    bytes: &[u8; 4096],
-    volatile: bool,
-) -> bool
-    requires { Good held.old }
-    ensures runs { Runs P.Pages.goes (put n bytes.now volatile (seen held.old)) pages.old pages.new (result, seen held.new) }
-    ensures good { Good held.new }
-{
-    if n >= held.numbers {
-        return false;
+    fn put_with(&mut self, n: u64, bytes: &[u8; 4096], how: How, left: u64) -> Result<(), Refused>
+        ensures { Runs P.Pages.goes (put_with n bytes.now how left (cache_of self.old)) self.old.pages self.new.pages (is_ok result, cache_of self.new) }
+    {
+        if let Some(tag) = self.staying(n, bytes, how, left) {
+            let i = self.frame_for(n);
+            self.frames.fill(i, tag, bytes);
+            return Ok(());
+        }
+        self.make_room(left);
+        put_below(&mut self.pages, n, bytes, how)?;
+        self.frames.drop_page(n);
+        Ok(())
     }
-    let left = pages.left();
-    put_with(pages, held, n, bytes, volatile, left)
-}
 
-fn through_with<P: Pages>(
-    pages: &mut P,
-    held: &mut Frames,
-    n: u64,
-    bytes: &[u8; 4096],
-    left: u64,
-) -> bool
-    requires { Good held.old }
-    ensures runs { Runs P.Pages.goes (through_with n bytes.now left (seen held.old)) pages.old pages.new (result, seen held.new) }
-    ensures good { Good held.new }
-{
-    make_room(pages, held, left);
-    let done = pages.put_through(n, bytes);
-    if done {
-        held.drop_page(n);
+    pub(crate) fn put_page(&mut self, n: u64, bytes: &[u8; 4096], how: How) -> Result<(), Refused>
+        ensures { Runs P.Pages.goes (put n bytes.now how (cache_of self.old)) self.old.pages self.new.pages (is_ok result, cache_of self.new) }
+    {
+        if n >= self.frames.numbers {
+            return Err(Refused);
+        }
+        let left = self.pages.left();
+        self.put_with(n, bytes, how, left)
     }
-    done
-}
-
-pub(crate) fn put_past<P: Pages>(
-    pages: &mut P,
-    held: &mut Frames,
-    n: u64,
-    bytes: &[u8; 4096],
-) -> bool
-    requires { Good held.old }
-    ensures runs { Runs P.Pages.goes (put_through n bytes.now (seen held.old)) pages.old pages.new (result, seen held.new) }
-    ensures good { Good held.new }
-{
-    if n >= held.numbers {
-        return false;
-    }
-    let left = pages.left();
-    through_with(pages, held, n, bytes, left)
 }

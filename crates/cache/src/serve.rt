@@ -1,17 +1,18 @@
 // What the cache does at each call.
-ghost use Rattle.std.specs.Prelude.{◌≡◌, length};
+#![tactic(auto, unfolding(caching::specs::Cache::cache_flow))]
+
+ghost use Rattle.std.specs.Prelude.{◌≡◌, ◌<◌, length, IfSome};
+ghost use Rattle.std.specs.Fn.{FnOnceReturnsAtMut};
 ghost use Rattle.device.specs.Flow.{Runs};
+ghost use Rattle.pages.specs.Of.{page_told};
 ghost use Rattle.caching.specs.Frames.{fresh};
 ghost use Rattle.caching.specs.Cache.{cache_flow, spare_after};
-ghost use Rattle.cache.specs.Of.{seen, Good};
 ghost use Rattle.cache.specs.Serving.{cache_of};
 
-use crate::back::{evict, flush};
 use crate::cached::Cached;
 use crate::frames::Frames;
-use crate::looks::{clean_tag, marked_tag};
-use crate::puts::{put_page, put_past};
-use pages::Pages;
+use caching::{How, Tag};
+use pages::{Pages, Refused};
 
 impl<'f, P> Cached<'f, P> {
     // Over so many pages, with as many frames as are lent, up to 128.
@@ -24,22 +25,25 @@ impl<'f, P> Cached<'f, P> {
         }
     }
 
-    // The pages below, as they are without what is marked. Who puts there has to open the cache again.
-    pub fn pages(&mut self) -> &mut P
-        ensures { result.now ≡ self.old.pages }
+    // What f does with the pages below, as they are without what is marked. The frames stay as they are; who puts there has to open the cache again.
+    pub fn with_pages<R, F: FnOnce(&mut P) -> R>(&mut self, f: F) -> R
+        requires { F.IsAlwaysCallable f }
+        ensures called { FnOnceReturnsAtMut F.FnOnce f self.old.pages result self.new.pages }
+        ensures frames { cache_of self.new ≡ cache_of self.old }
     {
-        &mut self.pages
+        f(&mut self.pages)
     }
 }
 
-// With all that is marked written below.
-fn spare_after<P: Pages>(pages: &mut P, held: &mut Frames, from: u64) -> u64
-    requires { Good held.old }
-    ensures runs { Runs P.Pages.goes (spare_after from (seen held.old)) pages.old pages.new (result, seen held.new) }
-    ensures good { Good held.new }
-{
-    flush(pages, held);
-    pages.spare(from)
+impl<'f, P: Pages> Cached<'f, P> {
+    // With all that is marked written below.
+    fn spare_after(&mut self, from: u64) -> Option<u64>
+        ensures runs { Runs P.Pages.goes (spare_after from (cache_of self.old)) self.old.pages self.new.pages (page_told result, cache_of self.new) }
+        ensures real { IfSome result (λ n. 0 < n) }
+    {
+        self.flush();
+        self.pages.spare(from)
+    }
 }
 
 impl<'f, P: Pages> Pages for Cached<'f, P> {
@@ -47,54 +51,58 @@ impl<'f, P: Pages> Pages for Cached<'f, P> {
 
     fn get(&mut self, n: u64, into: &mut [u8; 4096]) {
         if n >= self.frames.numbers {
-            into.fill(0);
+            *into = [0; 4096];
             return;
         }
         if let Some(i) = self.frames.find(n) {
-            *into = self.frames.bytes[i];
+            *into = *self.frames.page(i);
             return;
         }
-        if self.frames.count == 0 {
+        if self.frames.count() == 0 {
             self.pages.get(n, into);
             return;
         }
-        let i = evict(&mut self.pages, &mut self.frames);
+        let i = self.evict();
         self.pages.get(n, into);
-        self.frames.fill(i, clean_tag(n), into);
+        self.frames.fill(i, Tag::Clean { page: n }, into);
     }
 
-    fn put(&mut self, n: u64, bytes: &[u8; 4096]) -> bool {
-        put_page(&mut self.pages, &mut self.frames, n, bytes, false)
+    fn put(&mut self, n: u64, bytes: &[u8; 4096]) -> Result<(), Refused> {
+        self.put_page(n, bytes, How::Lasting)
     }
 
-    fn put_volatile(&mut self, n: u64, bytes: &[u8; 4096]) -> bool {
-        put_page(&mut self.pages, &mut self.frames, n, bytes, true)
+    fn put_volatile(&mut self, n: u64, bytes: &[u8; 4096]) -> Result<(), Refused> {
+        self.put_page(n, bytes, How::Volatile)
     }
 
-    fn put_through(&mut self, n: u64, bytes: &[u8; 4096]) -> bool {
-        put_past(&mut self.pages, &mut self.frames, n, bytes)
+    fn put_through(&mut self, n: u64, bytes: &[u8; 4096]) -> Result<(), Refused> {
+        self.put_page(n, bytes, How::Through)
     }
 
-    fn volatile(&mut self, n: u64) -> bool {
+    fn volatile(&mut self, n: u64) -> Result<(), Refused> {
         if let Some(i) = self.frames.find(n) {
-            if self.frames.tags[i].marked {
-                self.frames.tags[i] = marked_tag(n, true);
-                return true;
+            if self.frames.tags[i].is_marked() {
+                self.frames.tags[i] = Tag::Marked {
+                    page: n,
+                    volatile: true,
+                };
+                return Ok(());
             }
         }
         self.pages.volatile(n)
     }
 
-    fn spare(&mut self, from: u64) -> u64 {
+    fn spare(&mut self, from: u64) -> Option<u64> {
+        // As many turns as may find a page in a frame, and one more; where to look on comes from what was found.
         let mut at = from;
-        for _ in 0..self.frames.count + 1 {
-            let n = self.pages.spare(at);
+        for _ in 0..self.frames.count() + 1 {
+            let n = self.pages.spare(at)?;
             if !self.frames.is_marked(n) {
-                return n;
+                return Some(n);
             }
             at = n.wrapping_add(1);
         }
-        spare_after(&mut self.pages, &mut self.frames, from)
+        self.spare_after(from)
     }
 
     fn left(&mut self) -> u64 {
@@ -102,12 +110,12 @@ impl<'f, P: Pages> Pages for Cached<'f, P> {
         left.saturating_sub(self.frames.marks())
     }
 
-    fn label(&mut self, into: &mut [u8; 248]) -> bool {
-        self.pages.label(into)
+    fn label(&mut self) -> Option<[u8; 248]> {
+        self.pages.label()
     }
 
     fn sync(&mut self, label: &[u8; 248]) {
-        flush(&mut self.pages, &mut self.frames);
+        self.flush();
         self.pages.sync(label);
     }
 }

@@ -10,15 +10,20 @@ use Rattle.device.specs.Priced.{CutIn}
 use Rattle.paging.specs.Layout.{one, numbers, rooms}
 use Rattle.paging.specs.Pages.{PageCall, Get, Put, PutVolatile, PutThrough, Volatile, Spare, Left, Label, Sync, Told, PageReply, Page, Said, Number, Synced, replied, told_in, page_in, said_in, number_in, label_in, blank_page, same_bytes}
 use Rattle.paging.specs.Judge.{State, is_blank, lasting, set_at, live, used, after_put, CanPut, CannotPut, Crowded, Putting, PutAnswers, with_left, Answers, still, Down, kept, put_price, price}
-use Rattle.paging.proofs.Store.{not-both, put-answers}
+use Rattle.paging.proofs.Coding.{one-le}
+use Rattle.paging.proofs.Store.{not-both}
 use Rattle.paging.proofs.Calls.{answers-put}
-use Rattle.caching.specs.Frames.{Cache, free, clean, marked, frame_at, tag_at, with_tag, filled, holds, find, marks, is_marked, dropped}
-use Rattle.caching.specs.Cache.{can_put, stays, passed, put_with, put, through_with, spare_turn, spare_after, cache_flow}
+use Rattle.caching.specs.declared.How.{How}
+use Rattle.caching.specs.declared.How.TheVariants as how
+use Rattle.caching.specs.declared.Tag.{Tag}
+use Rattle.caching.specs.declared.Tag.TheVariants.{Free, Clean, Marked}
+use Rattle.caching.specs.Frames.{Cache, count, unwritten, frame_at, tag_at, with_tag, filled, holds, tag_of, find, marks, is_marked, dropped}
+use Rattle.caching.specs.Cache.{can_put, stays, staying, passed, put_with, put, spare_turn, spare_after, cache_flow}
 use Rattle.caching.specs.Tie.{Shows, Still, CacheOn, CacheOff}
-use Rattle.caching.proofs.Logic.{planned, Wp, wp-more, wp-cond, wp-some, wp-then, Turned, wp-loop, wp-put}
-use Rattle.caching.proofs.Frames.{find-some, find_none, one-yes, one-no, not-marked, page-held, holds-own, holds-other, frame-there}
+use Rattle.caching.proofs.Logic.{volatile_as, planned, Wp, wp-more, wp-cond, wp-some, wp-then, Turned, wp-loop, wp-put}
+use Rattle.caching.proofs.Frames.{find-some, find_none, one-yes, one-no, not-marked, holds-one, itself, marked-is, frame-there}
 use Rattle.caching.proofs.Ties.{set_there, set_else, Agree, agree, agrees, lone-found, only-there, beside, Tagged, tagged-tag, tagged-fill, tie-tagged, tie-states, all-now, all-volatile}
-use Rattle.caching.proofs.Back.{Wrote, Ready, Newer, newer, flushes, makes-room, evicts-for, frames-for}
+use Rattle.caching.proofs.Back.{flag, Wrote, Ready, Newer, has-marked, newer, flushes, makes-room, evicts-for, frames-for}
 
 -- A CUT leaves the same above as below
 pub fell : {z : ℕ} {s u : State} (v : State) → Still s v → Down z s u → (o : State) × Down z v o × CacheOff z u o
@@ -49,37 +54,33 @@ pub relax : {z : ℕ} {m : Cache} {s v : State} (l : ℕ) → CacheOn z m s v �
 relax {z} {m} {s} {v} l r h = tie-states r (λ n. agrees n (record { now = refl; volatile = refl }) (agree n v) (r.shows n)) (record { synced = r.still.synced; label = r.still.label }) (let a = r.left in omega arith)
 
 -- what is shown of a page in a frame, and of one in no marked frame
-now-held : {z : ℕ} {m : Cache} {s v : State} (i n : ℕ) → i < m.count → holds (tag_at m i) n ≡ true → Shows z m s v n → v.now n ≡ frame_at m i
+now-held : {z : ℕ} {m : Cache} {s v : State} (i n : ℕ) → i < count m → holds (tag_at m i) n ≡ true → Shows z m s v n → v.now n ≡ frame_at m i
 now-held i n l h (Shows.away f a b) = absurd (both_ways _ (f i l) h)
 now-held {m = m} i n l h (Shows.same j o k u a b c) = a ∙ ap (frame_at m) (sym (o.alone i l h))
-now-held {m = m} i n l h (Shows.newer j o u y nb a b) = a ∙ ap (frame_at m) (sym (o.alone i l h))
+now-held {m = m} i n l h (Shows.newer j w o u y nb a b) = a ∙ ap (frame_at m) (sym (o.alone i l h))
 
-now-clean : {z : ℕ} {m : Cache} {s v : State} (n : ℕ) → ((i : ℕ) → i < m.count → holds (tag_at m i) n ≡ true → (tag_at m i).marked ≡ false) → Shows z m s v n → v.now n ≡ s.now n
+now-clean : {z : ℕ} {m : Cache} {s v : State} (n : ℕ) → ((i : ℕ) → i < count m → holds (tag_at m i) n ≡ true → unwritten (tag_at m i) ≡ false) → Shows z m s v n → v.now n ≡ s.now n
 now-clean n h (Shows.away f a b) = a
 now-clean n h (Shows.same i o l u a b c) = a ∙ b
-now-clean n h (Shows.newer i o u y nb a b) = absurd (both_ways _ (h i o.within o.has) u)
+now-clean n h (Shows.newer i w o u y nb a b) = absurd (both_ways _ (h i o.within o.has) (ap unwritten u))
 
 -- a page that is not marked is in no marked frame
-clean-here : {z : ℕ} {m : Cache} {s v : State} (n : ℕ) → is_marked m n ≡ false → Shows z m s v n → (i : ℕ) → i < m.count → holds (tag_at m i) n ≡ true → (tag_at m i).marked ≡ false
+clean-here : {z : ℕ} {m : Cache} {s v : State} (n : ℕ) → is_marked m n ≡ false → Shows z m s v n → (i : ℕ) → i < count m → holds (tag_at m i) n ≡ true → unwritten (tag_at m i) ≡ false
 clean-here {z} {m} {s} {v} n e w i l h = go (find m n) refl e
   where
-    go : (o : Option ℕ) → find m n ≡ o → if_some o (λ i. (tag_at m i).marked) false ≡ false → (tag_at m i).marked ≡ false
+    go : (o : Option ℕ) → find m n ≡ o → if_some o (λ i. unwritten (tag_at m i)) false ≡ false → unwritten (tag_at m i) ≡ false
     go (Some j) f g =
-        let (k, q) = find-some m.count m.tags n j f in
-        elim (cases_eq i j) [ inl x ↦ ap (λ i. (tag_at m i).marked) x ∙ g | inr x ↦ absurd (both_ways _ (lone-found j n k q w i l x) h) ]
-    go None f g = absurd (both_ways _ (find_none m.count m.tags n f i l) h)
+        let (k, q) = find-some (count m) m.tags n j f in
+        elim (cases_eq i j) [ inl x ↦ ap (λ i. unwritten (tag_at m i)) x ∙ g | inr x ↦ absurd (both_ways _ (lone-found j n k q w i l x) h) ]
+    go None f g = absurd (both_ways _ (find_none (count m) m.tags n f i l) h)
 
 -- a frame comes to have the page n: what is shown of all others
-others : {z : ℕ} {m t : Cache} {s v v' : State} (i n k : ℕ) {g : _} → Tagged i g m t → g.page ≡ n → (holds (tag_at m i) n ≡ true) ⊎ ((tag_at m i).marked ≡ false) → (k ≡ n → ⊥) → Agree k v v' → Shows z m s v k → Shows z t s v' k
-others {z} {m} {t} {s} {v} {v'} i n k {g} d p e x q w = beside i k d.beside (ap (λ g. holds g k) d.tag ∙ holds-other g k (λ y. x (sym y ∙ p))) (old e) (agree k s) q w
+others : {z : ℕ} {m t : Cache} {s v v' : State} (i n k : ℕ) {g : _} → Tagged i g m t → holds g n ≡ true → (holds (tag_at m i) n ≡ true) ⊎ (unwritten (tag_at m i) ≡ false) → (k ≡ n → ⊥) → Agree k v v' → Shows z m s v k → Shows z t s v' k
+others {z} {m} {t} {s} {v} {v'} i n k {g} d p e x q w = beside i k d.beside (ap (λ g. holds g k) d.tag ∙ holds-one g n k p x) (old e) (agree k s) q w
   where
-    old : (holds (tag_at m i) n ≡ true) ⊎ ((tag_at m i).marked ≡ false) → (holds (tag_at m i) k ≡ false) ⊎ ((tag_at m i).marked ≡ false)
-    old (inl h) = inl (holds-other (tag_at m i) k (λ y. x (sym y ∙ page-held (tag_at m i) n h)))
+    old : (holds (tag_at m i) n ≡ true) ⊎ (unwritten (tag_at m i) ≡ false) → (holds (tag_at m i) k ≡ false) ⊎ (unwritten (tag_at m i) ≡ false)
+    old (inl h) = inl (holds-one (tag_at m i) n k h x)
     old (inr h) = inr h
-
-flag : (w x : Bool) → x ≡ false → (w && not x) ≡ w
-flag true x h = ap not h
-flag false x h = refl
 
 module _ (z : ℕ) (v : State) where
   abbrev pub Falls : PageCall → State → Type 0
@@ -94,43 +95,43 @@ module _ (z : ℕ) (v : State) where
   -- GET
   module _ (n : ℕ) where
     -- a page that was read comes into a frame
-    loaded : (t : Cache) (s : State) (i : ℕ) → CacheOn z t s v → n < numbers z → Ready t i n → (tag_at t i).marked ≡ false → ((k : ℕ) → k < t.count → holds (tag_at t k) n ≡ true → ⊥) → CacheOn z (filled i (clean n) (s.now n) t) s v
-    loaded t s i r l y u h = tie-tagged i (clean n) r d (λ e. absurd (both_ways _ refl e)) shown r.still (let a = d.marks in let b : one (tag_at t i).marked ≡ 0 = one-no u in let c : one (clean n).marked ≡ 0 = one-no refl in let e = r.left in omega arith)
+    loaded : (t : Cache) (s : State) (i : ℕ) → CacheOn z t s v → n < numbers z → Ready t i n → unwritten (tag_at t i) ≡ false → ((k : ℕ) → k < count t → holds (tag_at t k) n ≡ true → ⊥) → CacheOn z (filled i (Clean n) (s.now n) t) s v
+    loaded t s i r l y u h = tie-tagged i (Clean n) r d shown r.still (let a = d.marks in let b : one (unwritten (tag_at t i)) ≡ 0 = one-no u in let c : one (unwritten (Clean n)) ≡ 0 = one-no refl in let e = r.left in omega arith)
       where
-        d : Tagged i (clean n) t (filled i (clean n) (s.now n) t)
-        d = tagged-fill i (clean n) (s.now n) t y.within r.tagged
+        d : Tagged i (Clean n) t (filled i (Clean n) (s.now n) t)
+        d = tagged-fill i (Clean n) (s.now n) t y.within r.tagged
 
-        bytes : frame_at (filled i (clean n) (s.now n) t) i ≡ s.now n
-        bytes = frame-there i (clean n) (s.now n) t y.within r.framed
+        bytes : frame_at (filled i (Clean n) (s.now n) t) i ≡ s.now n
+        bytes = frame-there i (Clean n) (s.now n) t y.within
 
-        its : Shows z t s v n → Shows z (filled i (clean n) (s.now n) t) s v n
-        its (Shows.away f a b) = Shows.same i (only-there i n d.beside y.within (ap (λ g. holds g n) d.tag ∙ holds-own (clean n) refl) y.lone) l (ap (λ g. g.marked) d.tag) (a ∙ sym bytes) bytes b
+        its : Shows z t s v n → Shows z (filled i (Clean n) (s.now n) t) s v n
+        its (Shows.away f a b) = Shows.same i (only-there i n d.beside y.within (ap (λ g. holds g n) d.tag ∙ itself n) y.lone) l d.tag (a ∙ sym bytes) bytes b
         its (Shows.same j o k u a b c) = absurd (h j o.within o.has)
-        its (Shows.newer j o u k nb a b) = absurd (h j o.within o.has)
+        its (Shows.newer j w o u k nb a b) = absurd (h j o.within o.has)
 
-        shown : (k : ℕ) → Shows z (filled i (clean n) (s.now n) t) s v k
+        shown : (k : ℕ) → Shows z (filled i (Clean n) (s.now n) t) s v k
         shown k =
             elim (cases_eq k n) [
-              | inl x ↦ subst (λ k. Shows z (filled i (clean n) (s.now n) t) s v k) (sym x) (its (r.shows n))
-              | inr x ↦ others i n k d refl y.either x (agree k v) (r.shows k)
+              | inl x ↦ subst (λ k. Shows z (filled i (Clean n) (s.now n) t) s v k) (sym x) (its (r.shows n))
+              | inr x ↦ others i n k d (itself n) y.either x (agree k v) (r.shows k)
             ]
 
     -- where it is in no frame
-    unheld : (m : Cache) → find m n ≡ None → (k : ℕ) → k < m.count → holds (tag_at m k) n ≡ true → ⊥
-    unheld m e k l h = both_ways _ (find_none m.count m.tags n e k l) h
+    unheld : (m : Cache) → find m n ≡ None → (k : ℕ) → k < count m → holds (tag_at m k) n ≡ true → ⊥
+    unheld m e k l h = both_ways _ (find_none (count m) m.tags n e k l) h
 
     module _ (m : Cache) (s : State) (r : CacheOn z m s v) where
-      read : (t : Cache) (s' : State) → Wrote z v (Falls (Get n)) (falls (Get n)) m s t s' → Ready t m.hand n → (tag_at t m.hand).marked ≡ false → n < numbers z → find m n ≡ None → Wp z (Falls (Get n)) (Ended (Get n)) 8 (asks (Get n) (λ r. gives (page_in r, filled m.hand (clean n) (page_in r) t))) s'
+      read : (t : Cache) (s' : State) → Wrote z v (Falls (Get n)) (falls (Get n)) m s t s' → Ready t m.hand n → unwritten (tag_at t m.hand) ≡ false → n < numbers z → find m n ≡ None → Wp z (Falls (Get n)) (Ended (Get n)) 8 (asks (Get n) (λ r. gives (page_in r, filled m.hand (Clean n) (page_in r) t))) s'
       unfolding price replied
       read t s' a y u l e =
           Wp.calls 0 (falls (Get n) s' a.tied.still) (omega arith) (λ x s'' q.
           let (i, j) = got q l in
-          let g : v.now n ≡ s'.now n = now-clean n (λ k h o. absurd (unheld m e k (let c = a.count in omega arith) (sym (a.pages k n) ∙ o))) (a.tied.shows n) in
-          subst₂ (λ s'' b. Wp z (Falls (Get n)) (Ended (Get n)) 0 (gives (b, filled m.hand (clean n) b t)) s'') (sym i) (sym j)
+          let g : v.now n ≡ s'.now n = now-clean n (λ k h o. absurd (unheld m e k (let c = a.size in omega arith) (sym (a.pages k n) ∙ o))) (a.tied.shows n) in
+          subst₂ (λ s'' b. Wp z (Falls (Get n)) (Ended (Get n)) 0 (gives (b, filled m.hand (Clean n) b t)) s'') (sym i) (sym j)
           (Wp.ends (falls (Get n) s' a.tied.still) (
             v,
             subst (λ b. Answers z (Get n) v (Page b) v) g (Answers.gets n v l),
-            loaded t s' m.hand a.tied l y u (λ k h o. unheld m e k (let c = a.count in omega arith) (sym (a.pages k n) ∙ o)),
+            loaded t s' m.hand a.tied l y u (λ k h o. unheld m e k (let c = a.size in omega arith) (sym (a.pages k n) ∙ o)),
           )))
 
       pub get-ok : Wp z (Falls (Get n)) (Ended (Get n)) (price z v (Get n)) (planned (cache_flow (Get n) m)) s
@@ -141,10 +142,10 @@ module _ (z : ℕ) (v : State) where
           let l : n < numbers z = rw r.numbered at (ltb-true n m.numbers e) in
           wp-some z (Falls (Get n)) (find m n)
           (λ i f.
-          let (h, k) = find-some m.count m.tags n i f in
+          let (h, k) = find-some (count m) m.tags n i f in
           Wp.ends (falls (Get n) s r.still) (v, subst (λ b. Answers z (Get n) v (Page b) v) (now-held i n h k (r.shows n)) (Answers.gets n v l), r))
           (λ f.
-          wp-cond z (Falls (Get n)) (eqb m.count 0)
+          wp-cond z (Falls (Get n)) (eqb (count m) 0)
           (λ c.
           Wp.calls 0 (falls (Get n) s r.still) (omega arith) (λ x t q.
           let (i, j) = got q l in
@@ -153,7 +154,7 @@ module _ (z : ℕ) (v : State) where
           (λ c.
           wp-then z (Falls (Get n)) 8 0 (omega arith)
           (wp-more z (Falls (Get n)) 0 (omega arith) (λ t s' (a, y, u). read t s' a y u l f)
-          (evicts-for z v (Falls (Get n)) (falls (Get n)) n m s r (let a = eqb-false m.count 0 c in omega arith) f)))))
+          (evicts-for z v (Falls (Get n)) (falls (Get n)) n m s r (let a = eqb-false (count m) 0 c in omega arith) f)))))
           (λ e. Wp.ends (falls (Get n) s r.still) (v, Answers.gets_none n v (let a = ltb-false n m.numbers e in let b = r.numbered in omega arith), r))
 
   -- PUT, of any kind
@@ -162,38 +163,38 @@ module _ (z : ℕ) (v : State) where
     EndsPut x t = (o : State) × Answers z c v (Said x.0) o × CacheOn z x.1 t o
 
     -- into a frame
-    placed : (t : Cache) (s : State) (i : ℕ) → CacheOn z t s v → Ready t i n → CanPut z n b → is_blank b ≡ false → marks t < s.left → EndsPut (true, filled i (marked n w) b t) s
+    placed : (t : Cache) (s : State) (i : ℕ) → CacheOn z t s v → Ready t i n → CanPut z n b → is_blank b ≡ false → marks t < s.left → EndsPut (true, filled i (Marked n w) b t) s
     placed t s i r y ok nb l = (
       after_put n b w left v,
       answers-put kind (PutAnswers.done left ok (let a = r.left in let f : one (not (is_blank b)) ≡ 1 = one-yes (ap not nb) in let e = most in omega arith)),
-      tie-tagged i (marked n w) r d (λ e. refl) shown (record { synced = r.still.synced; label = r.still.label }) (let e = most in omega arith),
+      tie-tagged i (Marked n w) r d shown (record { synced = r.still.synced; label = r.still.label }) (let e = most in omega arith),
     )
       where
         u : Cache
-        u = filled i (marked n w) b t
+        u = filled i (Marked n w) b t
 
         left : ℕ
         left = s.left - marks u
 
-        d : Tagged i (marked n w) t u
-        d = tagged-fill i (marked n w) b t y.within r.tagged
+        d : Tagged i (Marked n w) t u
+        d = tagged-fill i (Marked n w) b t y.within r.tagged
 
         most : marks u ≤ marks t + 1
-        most = let a = d.marks in let f : one (marked n w).marked ≡ 1 = one-yes refl in omega arith
+        most = let a = d.marks in let f : one (unwritten (Marked n w)) ≡ 1 = one-yes refl in omega arith
 
         bytes : frame_at u i ≡ b
-        bytes = frame-there i (marked n w) b t y.within r.framed
+        bytes = frame-there i (Marked n w) b t y.within
 
         its : Shows z u s (after_put n b w left v) n
         its =
-            Shows.newer i (only-there i n d.beside y.within (ap (λ g. holds g n) d.tag ∙ holds-own (marked n w) refl) y.lone) (ap (λ g. g.marked) d.tag) (rw bytes ok) (rw bytes nb)
-            (set_there n b v.now ∙ sym bytes) (set_there n (w && not (is_blank b)) v.volatile ∙ (flag w (is_blank b) nb ∙ ap (λ g. g.volatile) (sym d.tag)))
+            Shows.newer i w (only-there i n d.beside y.within (ap (λ g. holds g n) d.tag ∙ itself n) y.lone) d.tag (rw bytes ok) (rw bytes nb)
+            (set_there n b v.now ∙ sym bytes) (set_there n (w && not (is_blank b)) v.volatile ∙ flag w (is_blank b) nb)
 
         shown : (k : ℕ) → Shows z u s (after_put n b w left v) k
         shown k =
             elim (cases_eq k n) [
               | inl x ↦ subst (λ k. Shows z u s (after_put n b w left v) k) (sym x) its
-              | inr x ↦ others i n k d refl y.either x (record { now = set_else n k b v.now x; volatile = set_else n k (w && not (is_blank b)) v.volatile x }) (r.shows k)
+              | inr x ↦ others i n k d (itself n) y.either x (record { now = set_else n k b v.now x; volatile = set_else n k (w && not (is_blank b)) v.volatile x }) (r.shows k)
             ]
 
     -- below, past the frames
@@ -201,37 +202,29 @@ module _ (z : ℕ) (v : State) where
         (marks (dropped n t) ≤ marks t) × (v'.left + marks (dropped n t) ≤ s'.left → CacheOn z (dropped n t) s' v')
     let_go t s s' v' r p q f g e = go (find t n) refl
       where
-        go : (o : Option ℕ) → find t n ≡ o → (marks (if_some o (λ i. with_tag i free t) t) ≤ marks t) × (v'.left + marks (if_some o (λ i. with_tag i free t) t) ≤ s'.left → CacheOn z (if_some o (λ i. with_tag i free t) t) s' v')
+        go : (o : Option ℕ) → find t n ≡ o → (marks (if_some o (λ i. with_tag i Free t) t) ≤ marks t) × (v'.left + marks (if_some o (λ i. with_tag i Free t) t) ≤ s'.left → CacheOn z (if_some o (λ i. with_tag i Free t) t) s' v')
         go (Some i) h =
-            let (l, k) = find-some t.count t.tags n i h in
-            let d : Tagged i free t (with_tag i free t) = tagged-tag i free t l r.tagged in (
-              let a = d.marks in let b : one free.marked ≡ 0 = one-no refl in omega arith,
-              tie-tagged i free r d (λ x. absurd (both_ways _ refl x)) (λ j.
+            let (l, k) = find-some (count t) t.tags n i h in
+            let d : Tagged i Free t (with_tag i Free t) = tagged-tag i Free t l r.tagged in (
+              let a = d.marks in let b : one (unwritten Free) ≡ 0 = one-no refl in omega arith,
+              tie-tagged i Free r d (λ j.
                   elim (cases_eq j n) [
                     | inl x ↦
                         Shows.away (λ a y. elim (cases_eq a i) [
-                          | inl u ↦ ap (λ a. holds (tag_at (with_tag i free t) a) j) u ∙ ap (λ g. holds g j) d.tag
+                          | inl u ↦ ap (λ a. holds (tag_at (with_tag i Free t) a) j) u ∙ ap (λ g. holds g j) d.tag
                           | inr u ↦ ap (λ g. holds g j) (d.beside.tags a u) ∙ (ap (λ j. holds (tag_at t a) j) x ∙ lone-found i n l k (r.shows n) a y u)
                         ]) (subst (λ j. v'.now j ≡ s'.now j) (sym x) f) (subst (λ j. v'.volatile j ≡ s'.volatile j) (sym x) g)
-                    | inr x ↦ beside i j d.beside (ap (λ g. holds g j) d.tag) (inl (holds-other (tag_at t i) j (λ y. x (sym y ∙ page-held (tag_at t i) n k)))) (p j x) (q j x) (r.shows j)
+                    | inr x ↦ beside i j d.beside (ap (λ g. holds g j) d.tag) (inl (holds-one (tag_at t i) n j k x)) (p j x) (q j x) (r.shows j)
                   ]) e,
             )
         go None h = (
           omega arith,
           tie-states r (λ j.
               elim (cases_eq j n) [
-                | inl x ↦ Shows.away (λ a y. ap (λ j. holds (tag_at t a) j) x ∙ find_none t.count t.tags n h a y) (subst (λ j. v'.now j ≡ s'.now j) (sym x) f) (subst (λ j. v'.volatile j ≡ s'.volatile j) (sym x) g)
+                | inl x ↦ Shows.away (λ a y. ap (λ j. holds (tag_at t a) j) x ∙ find_none (count t) t.tags n h a y) (subst (λ j. v'.now j ≡ s'.now j) (sym x) f) (subst (λ j. v'.volatile j ≡ s'.volatile j) (sym x) g)
                 | inr x ↦ agrees j (p j x) (q j x) (r.shows j)
               ]) e,
         )
-
-    at_most : one (not (is_blank b)) ≤ 1
-    unfolding one
-    at_most = go (not (is_blank b))
-      where
-        go : (x : Bool) → one x ≤ 1
-        go true = omega arith
-        go false = omega arith
 
     done : (t : Cache) (s : State) (l : ℕ) → CacheOn z t s v → (marks t < s.left) ⊎ (marks t ≡ 0) → CanPut z n b → s.left ≤ l + one (not (is_blank b)) → EndsPut (true, dropped n t) (after_put n b w l s)
     done t s l r e ok q = (
@@ -252,7 +245,7 @@ module _ (z : ℕ) (v : State) where
             (record { synced = r.still.synced; label = r.still.label })
 
         fits : (marks t < s.left) ⊎ (marks t ≡ 0) → marks (dropped n t) ≤ l
-        fits (inl h) = let x = all.0 in let y = at_most in omega arith
+        fits (inl h) = let x = all.0 in let y = one-le (not (is_blank b)) in omega arith
         fits (inr h) = let x = all.0 in omega arith
 
     -- no room below: nothing is marked, so there is none above
@@ -306,59 +299,56 @@ module _ (z : ℕ) (v : State) where
     unfull true e = absurd (false≢true e)
     unfull false e = refl
 
-    put-with : (c : PageCall) (w : Bool) (kind : Putting c n b w) → CanPut z n b → (l : ℕ) (t : State) → t.left ≡ l → CacheOn z m t v → Wp z (Falls c) (EndsPut c n b w kind) (put_price z v) (planned (put_with n b w l m)) t
+    staying_is : (h : How) (x : Bool) (g : Tag) → cond x (tag_of h n) None ≡ Some g → (x ≡ true) × (g ≡ Marked n (volatile_as h))
+    staying_is how.Lasting true g e = (refl, cc)
+    staying_is how.Volatile true g e = (refl, cc)
+    staying_is how.Through true g e = cc
+    staying_is h false g e = cc
+
+    put-with : (c : PageCall) (h : How) (kind : Putting c n b (volatile_as h)) → CanPut z n b → (l : ℕ) (t : State) → t.left ≡ l → CacheOn z m t v → Wp z (Falls c) (EndsPut c n b (volatile_as h) kind) (put_price z v) (planned (put_with n b h l m)) t
     unfolding plan_of
-    put-with c w kind ok l t i k =
-        wp-cond z (Falls c) (stays b l m)
-        (λ h.
-        let (nb, h') = and_parts (not (same_bytes b blank_page)) _ h in
-        let (some, fits) = and_parts (ltb 0 m.count) _ h' in
+    put-with c h kind ok l t i k =
+        wp-some z (Falls c) (staying n b h l m)
+        (λ g e.
+        let (st, gs) = staying_is h (stays b l m) g e in
+        let (nb, st') = and_parts (not (same_bytes b blank_page)) _ st in
+        let (some, fits) = and_parts (ltb 0 (count m)) _ st' in
         wp-then z (Falls c) 0 0 (omega arith)
         (wp-more z (Falls c) 0 (omega arith) (λ x s' (a, y).
-        Wp.ends (falls c s' a.tied.still) (placed c n b w kind x.1 s' x.0 a.tied y ok (unfull (is_blank b) nb) (let f = a.room 1 (let g = ltb-true (marks m) l fits in omega arith) in omega arith)))
-        (frames-for z v (Falls c) (falls c) n m t k (ltb-true 0 m.count some))))
-        (λ h.
+        Wp.ends (falls c s' a.tied.still)
+        (subst (λ g. EndsPut c n b (volatile_as h) kind (true, filled x.0 g b x.1) s') (sym gs)
+        (placed c n b (volatile_as h) kind x.1 s' x.0 a.tied y ok (unfull (is_blank b) nb) (let f = a.room 1 (let g = ltb-true (marks m) l fits in omega arith) in omega arith))))
+        (frames-for z v (Falls c) (falls c) n m t k (ltb-true 0 (count m) some))))
+        (λ _.
         wp-then z (Falls c) (put_price z v) 0 (omega arith)
         (wp-more z (Falls c) 0 (omega arith) (λ u s' (a, y).
         wp-then z (Falls c) 0 (put_price z v) (omega arith)
-        (wp-put z (Falls c) n b w s' (falls c s' a.tied.still) (cheaper z s' v (let f = a.tied.left in omega arith)) (λ x s'' q. passes c n b w kind u s' a.tied y ok q)))
+        (wp-put z (Falls c) n b h s' (falls c s' a.tied.still) (cheaper z s' v (let f = a.tied.left in omega arith)) (λ x s'' q. passes c n b (volatile_as h) kind u s' a.tied y ok q)))
         (makes-room z v (Falls c) (falls c) l m t k i)))
 
-    put_is : (c : PageCall) (w : Bool) (kind : Putting c n b w) → Wp z (Falls c) (EndsPut c n b w kind) (put_price z v) (planned (put n b w m)) s
+    put_is : (c : PageCall) (h : How) (kind : Putting c n b (volatile_as h)) → Wp z (Falls c) (EndsPut c n b (volatile_as h) kind) (put_price z v) (planned (put n b h m)) s
     unfolding plan_of told_in
-    put_is c w kind =
-        wp-cond z (Falls c) (can_put n b m) (λ e. asked c m s (λ l. planned (put_with n b w l m)) r (λ l t i k. put-with c w kind (able c n b w kind m s r e) l t i k)) (λ e. refused c n b w kind m s r e)
+    put_is c h kind =
+        wp-cond z (Falls c) (can_put n b m) (λ e. asked c m s (λ l. planned (put_with n b h l m)) r (λ l t i k. put-with c h kind (able c n b (volatile_as h) kind m s r e) l t i k)) (λ e. refused c n b (volatile_as h) kind m s r e)
 
     pub put-ok : Wp z (Falls (Put n b)) (Ended (Put n b)) (price z v (Put n b)) (planned (cache_flow (Put n b) m)) s
     unfolding cache_flow price replied
-    put-ok = put_is (Put n b) false Putting.by_put
+    put-ok = put_is (Put n b) how.Lasting Putting.by_put
 
     pub put-volatile-ok : Wp z (Falls (PutVolatile n b)) (Ended (PutVolatile n b)) (price z v (PutVolatile n b)) (planned (cache_flow (PutVolatile n b) m)) s
     unfolding cache_flow price replied
-    put-volatile-ok = put_is (PutVolatile n b) true Putting.by_put_volatile
-
-    through-with : CanPut z n b → (l : ℕ) (t : State) → t.left ≡ l → CacheOn z m t v → Wp z (Falls (PutThrough n b)) (EndsPut (PutThrough n b) n b false Putting.by_put_through) (put_price z v) (planned (through_with n b l m)) t
-    unfolding plan_of told_in price
-    through-with ok l t i k =
-        wp-then z (Falls (PutThrough n b)) (put_price z v) 0 (omega arith)
-        (wp-more z (Falls (PutThrough n b)) 0 (omega arith) (λ u s' (a, y).
-        Wp.calls 0 (falls (PutThrough n b) s' a.tied.still) (let f = cheaper z s' v (let g = a.tied.left in omega arith) in omega arith)
-        (λ x s'' q. (passes (PutThrough n b) n b false Putting.by_put_through u s' a.tied y ok (put-answers Putting.by_put_through q)).1))
-        (makes-room z v (Falls (PutThrough n b)) (falls (PutThrough n b)) l m t k i))
+    put-volatile-ok = put_is (PutVolatile n b) how.Volatile Putting.by_put_volatile
 
     pub put-through-ok : Wp z (Falls (PutThrough n b)) (Ended (PutThrough n b)) (price z v (PutThrough n b)) (planned (cache_flow (PutThrough n b) m)) s
-    unfolding cache_flow price replied plan_of told_in
-    put-through-ok =
-        wp-cond z (Falls (PutThrough n b)) (can_put n b m)
-        (λ e. asked (PutThrough n b) m s (λ l. planned (through_with n b l m)) r (λ l t i k. through-with (able (PutThrough n b) n b false Putting.by_put_through m s r e) l t i k))
-        (λ e. refused (PutThrough n b) n b false Putting.by_put_through m s r e)
+    unfolding cache_flow price replied
+    put-through-ok = put_is (PutThrough n b) how.Through Putting.by_put_through
 
   -- VOLATILE
   module _ (n : ℕ) (m : Cache) (s : State) (r : CacheOn z m s v) where
     abbrev turns : State → State
     turns s = record { now = s.now; volatile = set_at n (not (is_blank (s.now n))) s.volatile; synced = s.synced; label = s.label; left = s.left }
 
-    made : {x : PageReply} {t : State} → Answers z (Volatile n) s x t → ((i : ℕ) → i < m.count → holds (tag_at m i) n ≡ true → (tag_at m i).marked ≡ false) → Still t v × Ended (Volatile n) (said_in x, m) t
+    made : {x : PageReply} {t : State} → Answers z (Volatile n) s x t → ((i : ℕ) → i < count m → holds (tag_at m i) n ≡ true → unwritten (tag_at m i) ≡ false) → Still t v × Ended (Volatile n) (said_in x, m) t
     unfolding replied
     made (Answers.volatiles k s l) h = (record { synced = r.still.synced; label = r.still.label }, (turns v, Answers.volatiles n v l, tie-states r shown (record { synced = r.still.synced; label = r.still.label }) r.left))
       where
@@ -368,7 +358,7 @@ module _ (z : ℕ) (v : State) where
         its : Shows z m s v n → Shows z m (turns s) (turns v) n
         its (Shows.away f a b) = Shows.away f a flags
         its (Shows.same i o l u a b c) = Shows.same i o l u a b flags
-        its (Shows.newer i o u y nb a b) = absurd (both_ways _ (h i o.within o.has) u)
+        its (Shows.newer i w o u y nb a b) = absurd (both_ways _ (h i o.within o.has) (ap unwritten u))
 
         shown : (k : ℕ) → Shows z m (turns s) (turns v) k
         shown k =
@@ -379,27 +369,30 @@ module _ (z : ℕ) (v : State) where
     made (Answers.no_volatile k s l) h = (r.still, (v, Answers.no_volatile n v l, r))
 
     -- in a marked frame
-    turned : (i : ℕ) → i < m.count → holds (tag_at m i) n ≡ true → (tag_at m i).marked ≡ true → CacheOn z (with_tag i (marked n true) m) s (turns v)
-    turned i l h e =
-        tie-tagged i (marked n true) r d (λ x. refl) shown (record { synced = r.still.synced; label = r.still.label })
-        (let a = d.marks in let f : one (tag_at m i).marked ≡ 1 = one-yes e in let g : one (marked n true).marked ≡ 1 = one-yes refl in let k = r.left in omega arith)
+    turned : (i : ℕ) (w : Bool) → i < count m → tag_at m i ≡ Marked n w → CacheOn z (with_tag i (Marked n true) m) s (turns v)
+    turned i w l e =
+        tie-tagged i (Marked n true) r d shown (record { synced = r.still.synced; label = r.still.label })
+        (let a = d.marks in let f : one (unwritten (tag_at m i)) ≡ 1 = one-yes (ap unwritten e) in let g : one (unwritten (Marked n true)) ≡ 1 = one-yes refl in let k = r.left in omega arith)
       where
-        d : Tagged i (marked n true) m (with_tag i (marked n true) m)
-        d = tagged-tag i (marked n true) m l r.tagged
+        d : Tagged i (Marked n true) m (with_tag i (Marked n true) m)
+        d = tagged-tag i (Marked n true) m l r.tagged
 
-        is : Newer z m v i n
-        is = newer i n l h e (r.shows n)
+        h : holds (tag_at m i) n ≡ true
+        h = has-marked (tag_at m i) n w e
 
-        its : Shows z (with_tag i (marked n true) m) s (turns v) n
+        is : Newer z m v i n w
+        is = newer i n w l e (r.shows n)
+
+        its : Shows z (with_tag i (Marked n true) m) s (turns v) n
         its =
-            Shows.newer i (only-there i n d.beside l (ap (λ g. holds g n) d.tag ∙ holds-own (marked n true) refl) (lone-found i n l h (r.shows n))) (ap (λ g. g.marked) d.tag) is.can is.full is.now
-            (set_there n (not (is_blank (v.now n))) v.volatile ∙ (ap (λ b. not (is_blank b)) is.now ∙ (ap not is.full ∙ ap (λ g. g.volatile) (sym d.tag))))
+            Shows.newer i true (only-there i n d.beside l (ap (λ g. holds g n) d.tag ∙ itself n) (lone-found i n l h (r.shows n))) d.tag is.can is.full is.now
+            (set_there n (not (is_blank (v.now n))) v.volatile ∙ (ap (λ b. not (is_blank b)) is.now ∙ ap not is.full))
 
-        shown : (k : ℕ) → Shows z (with_tag i (marked n true) m) s (turns v) k
+        shown : (k : ℕ) → Shows z (with_tag i (Marked n true) m) s (turns v) k
         shown k =
             elim (cases_eq k n) [
-              | inl x ↦ subst (λ k. Shows z (with_tag i (marked n true) m) s (turns v) k) (sym x) its
-              | inr x ↦ others i n k d refl (inl h) x (record { now = refl; volatile = set_else n k (not (is_blank (v.now n))) v.volatile x }) (r.shows k)
+              | inl x ↦ subst (λ k. Shows z (with_tag i (Marked n true) m) s (turns v) k) (sym x) its
+              | inr x ↦ others i n k d (itself n) (inl h) x (record { now = refl; volatile = set_else n k (not (is_blank (v.now n))) v.volatile x }) (r.shows k)
             ]
 
     pub volatile-ok : Wp z (Falls (Volatile n)) (Ended (Volatile n)) (price z v (Volatile n)) (planned (cache_flow (Volatile n) m)) s
@@ -407,20 +400,20 @@ module _ (z : ℕ) (v : State) where
     volatile-ok =
         wp-some z (Falls (Volatile n)) (find m n)
         (λ i f.
-        let (l, h) = find-some m.count m.tags n i f in
-        wp-cond z (Falls (Volatile n)) (tag_at m i).marked
-        (λ e. Wp.ends (falls (Volatile n) s r.still) (turns v, Answers.volatiles n v (newer i n l h e (r.shows n)).can.0, turned i l h e))
-        (λ e. below (λ k x y. elim (cases_eq k i) [ inl u ↦ ap (λ k. (tag_at m k).marked) u ∙ e | inr u ↦ absurd (both_ways _ (lone-found i n l h (r.shows n) k x u) y) ])))
-        (λ f. below (λ k x y. absurd (both_ways _ (find_none m.count m.tags n f k x) y)))
+        let (l, h) = find-some (count m) m.tags n i f in
+        wp-cond z (Falls (Volatile n)) (unwritten (tag_at m i))
+        (λ e. let (w, t) = marked-is (tag_at m i) n e h in Wp.ends (falls (Volatile n) s r.still) (turns v, Answers.volatiles n v (newer i n w l t (r.shows n)).can.0, turned i w l t))
+        (λ e. below (λ k x y. elim (cases_eq k i) [ inl u ↦ ap (λ k. unwritten (tag_at m k)) u ∙ e | inr u ↦ absurd (both_ways _ (lone-found i n l h (r.shows n) k x u) y) ])))
+        (λ f. below (λ k x y. absurd (both_ways _ (find_none (count m) m.tags n f k x) y)))
       where
-        below : ((i : ℕ) → i < m.count → holds (tag_at m i) n ≡ true → (tag_at m i).marked ≡ false) → Wp z (Falls (Volatile n)) (Ended (Volatile n)) 0 (asks (Volatile n) (λ r. gives (said_in r, m))) s
+        below : ((i : ℕ) → i < count m → holds (tag_at m i) n ≡ true → unwritten (tag_at m i) ≡ false) → Wp z (Falls (Volatile n)) (Ended (Volatile n)) 0 (asks (Volatile n) (λ r. gives (said_in r, m))) s
         below h = Wp.calls 0 (falls (Volatile n) s r.still) (omega arith) (λ x t q. let (e, a) = made q h in Wp.ends (falls (Volatile n) t e) a)
 
   -- SPARE
   module _ (from : ℕ) where
-    -- what is not in a marked frame is right
-    spared : {m : Cache} {s t : State} {x : PageReply} (at : ℕ) → CacheOn z m s v → Answers z (Spare at) s x t → (t ≡ s) × (is_marked m (number_in x) ≡ false → Answers z (Spare from) v (Number (number_in x)) v)
-    spared {m} at r (Answers.spares f n s a b c) = (refl, λ e. Answers.spares from n v a b (now-clean n (clean-here n e (r.shows n)) (r.shows n) ∙ c))
+    -- none is right, and so is what is not in a marked frame
+    spared : {m : Cache} {s t : State} {x : PageReply} (at : ℕ) → CacheOn z m s v → Answers z (Spare at) s x t → (t ≡ s) × ((number_in x ≡ 0) ⊎ (is_marked m (number_in x) ≡ false) → Answers z (Spare from) v (Number (number_in x)) v)
+    spared {m} at r (Answers.spares f n s a b c) = (refl, λ o. elim o [ inl e ↦ absurd (omega arith) | inr e ↦ Answers.spares from n v a b (now-clean n (clean-here n e (r.shows n)) (r.shows n) ∙ c) ])
     spared {m} at r (Answers.no_spare f s a b) =
         let e : marks m ≡ 0 = let l = r.left in omega arith in
         (refl, λ _. Answers.no_spare from v (let l = r.left in omega arith) (subst (λ f. rooms z < live (numbers z) f) (sym (all-now r e)) b))
@@ -430,14 +423,15 @@ module _ (z : ℕ) (v : State) where
 
     pub spare-ok : (m : Cache) (s : State) → CacheOn z m s v → Wp z (Falls (Spare from)) (Ended (Spare from)) (price z v (Spare from)) (planned (cache_flow (Spare from) m)) s
     unfolding cache_flow price plan_of told_in replied
-    spare-ok m s r = wp-loop z (Falls (Spare from)) (λ i at s'. CacheOn z m s' v) (Ended (Spare from)) (m.count + 1) (spare_turn m) (λ _. spare_after from m) step last from s (here s r.still) r
+    spare-ok m s r = wp-loop z (Falls (Spare from)) (λ i at s'. CacheOn z m s' v) (Ended (Spare from)) (count m + 1) (spare_turn m) (λ _. spare_after from m) step last from s (here s r.still) r
       where
-        step : (i at : ℕ) (s' : State) → i < m.count + 1 → Falls (Spare from) s' → CacheOn z m s' v → Wp z (Falls (Spare from)) (Turned z (Falls (Spare from)) (λ i at s'. CacheOn z m s' v) (Ended (Spare from)) (suc i)) 0 (planned (spare_turn m i at)) s'
+        step : (i at : ℕ) (s' : State) → i < count m + 1 → Falls (Spare from) s' → CacheOn z m s' v → Wp z (Falls (Spare from)) (Turned z (Falls (Spare from)) (λ i at s'. CacheOn z m s' v) (Ended (Spare from)) (suc i)) 0 (planned (spare_turn m i at)) s'
         step i at s' l h k =
             Wp.calls 0 h (omega arith) (λ x t q.
             let (e, f) = spared at k q in
-            subst (λ t. Wp z (Falls (Spare from)) (Turned z (Falls (Spare from)) (λ i at s'. CacheOn z m s' v) (Ended (Spare from)) (suc i)) 0 (cond (is_marked m (number_in x)) (gives (on ((number_in x + 1) % 2 ^ 64))) (gives (out (number_in x, m)))) t) (sym e)
-            (wp-cond z (Falls (Spare from)) (is_marked m (number_in x)) (λ g. Wp.ends h k) (λ g. Wp.ends h (v, f g, k))))
+            subst (λ t. Wp z (Falls (Spare from)) (Turned z (Falls (Spare from)) (λ i at s'. CacheOn z m s' v) (Ended (Spare from)) (suc i)) 0 (cond (eqb (number_in x) 0) (gives (out (0, m))) (cond (is_marked m (number_in x)) (gives (on ((number_in x + 1) % 2 ^ 64))) (gives (out (number_in x, m))))) t) (sym e)
+            (wp-cond z (Falls (Spare from)) (eqb (number_in x) 0) (λ g. let o = eqb-true (number_in x) 0 g in Wp.ends h (v, subst (λ y. Answers z (Spare from) v (Number y) v) o (f (inl o)), k))
+            (λ _. wp-cond z (Falls (Spare from)) (is_marked m (number_in x)) (λ g. Wp.ends h k) (λ g. Wp.ends h (v, f (inr g), k)))))
 
         last : (at : ℕ) (s' : State) → Falls (Spare from) s' → CacheOn z m s' v → Wp z (Falls (Spare from)) (Ended (Spare from)) 0 (planned (spare_after from m)) s'
         last at s' h k =
@@ -445,7 +439,7 @@ module _ (z : ℕ) (v : State) where
             (wp-more z (Falls (Spare from)) 0 (omega arith) (λ u s'' (a, e).
             Wp.calls 0 (here s'' a.tied.still) (omega arith) (λ x t q.
             let (i, f) = spared from a.tied q in
-            subst (λ t. Wp z (Falls (Spare from)) (Ended (Spare from)) 0 (gives (number_in x, u)) t) (sym i) (Wp.ends (here s'' a.tied.still) (v, f (not-marked u (number_in x) e), a.tied))))
+            subst (λ t. Wp z (Falls (Spare from)) (Ended (Spare from)) 0 (gives (number_in x, u)) t) (sym i) (Wp.ends (here s'' a.tied.still) (v, f (inr (not-marked u (number_in x) e)), a.tied))))
             (flushes z v (Falls (Spare from)) here m s' k))
 
   -- LEFT and LABEL

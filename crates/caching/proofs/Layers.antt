@@ -1,8 +1,8 @@
 -- The cache as a layer.
 -- Assumes nothing.
-use Rattle.std.proofs.Common.{◌≡◌, ℕ, ◌<◌, ◌≤◌, Bool, true, false, List, ◌∷◌, length, refl, ap, subst, arith}
+use Rattle.std.proofs.Common.{◌≡◌, ℕ, ◌<◌, ◌≤◌, min, Bool, true, false, List, ◌∷◌, length, refl, ap, subst, arith}
 use lib.ListN.{length-replicate, get_or-replicate}
-use Rattle.std.proofs.lemmas.Bool.{lt-ltb, ne_eqb, both_ways}
+use Rattle.std.proofs.lemmas.Bool.{lt-ltb, ne_eqb}
 use Rattle.device.specs.Machine.{Machine, Event, cut_in, Judge, Allowed}
 use Rattle.device.specs.Layer.{Layer, Plan, gives, asks, Comes, CutShort, Stand, down, up, Above, KeepsAbove}
 use Rattle.device.specs.Plays.{plan_of, plan_then}
@@ -13,12 +13,13 @@ use Rattle.paging.specs.Layout.{numbers}
 use Rattle.paging.specs.Pages.{PageCall, Get, PageReply, replied, told_in, page_in, blank_page}
 use Rattle.paging.specs.Judge.{State, kept, price}
 use Rattle.paging.proofs.Store.{priced}
-use Rattle.caching.specs.Frames.{Cache, free, clean, fresh, frame_at, tag_at, with_tag, filled, turned, holds, marks}
+use Rattle.caching.specs.declared.Tag.TheVariants.{Free, Clean}
+use Rattle.caching.specs.Frames.{Cache, count, how_marked, waiting, unwritten, fresh, frame_at, tag_at, with_tag, filled, turned, holds, marks}
 use Rattle.caching.specs.Cache.{put_below, cache_layer}
 use Rattle.caching.specs.Tie.{Shows, CacheOn, CacheOff}
 use Rattle.caching.specs.Promise.{CacheKept, OverAny, OverStore, Hits, Misses, put_of, Stays}
 use Rattle.caching.proofs.Logic.{planned, Wp, wp-then, wp-comes, wp-cut}
-use Rattle.caching.proofs.Frames.{no-marked}
+use Rattle.caching.proofs.Frames.{no-marked, nothing-waits}
 use Rattle.caching.proofs.Calls.{fell, Falls, Ended, call_ok}
 
 -- COMING UP: nothing is in a frame
@@ -26,20 +27,21 @@ module _ (z frames : ℕ) (s v : State) (o : CacheOff z s v) where
   abbrev m : Cache
   m = fresh (numbers z) frames
 
-  bare : (i : ℕ) → i < m.count → tag_at m i ≡ free
-  bare i l = get_or-replicate 128 i free free (omega arith)
+  so-many : count m ≡ min frames 128
+  so-many = length-replicate (min frames 128) blank_page
+
+  bare : (i : ℕ) → i < count m → tag_at m i ≡ Free
+  bare i l = let c = so-many in get_or-replicate 128 i Free Free (omega arith)
 
   rises : CacheOn z m s v
   rises =
       record {
         numbered = refl;
-        framed = let a : length m.frames ≡ frames = length-replicate frames blank_page in omega arith;
-        tagged = let a : length m.tags ≡ 128 = length-replicate 128 free in omega arith;
+        tagged = let c = so-many in let a : length m.tags ≡ 128 = length-replicate 128 Free in omega arith;
         handed = λ h. h;
-        marked = λ i l e. absurd (both_ways _ (ap (λ g. g.marked) (bare i l)) e);
         shows = λ n. Shows.away (λ i l. ap (λ g. holds g n) (bare i l)) (λ j. o.now j n) (λ j. o.volatile j n);
         still = o.still;
-        left = let a : marks m ≡ 0 = no-marked m.count m.tags (λ i l. ap (λ g. g.marked) (bare i l)) in let b = o.left in omega arith;
+        left = let a : marks m ≡ 0 = no-marked (count m) m.tags (λ i l. ap unwritten (bare i l)) in let b = o.left in omega arith;
       }
 
 -- EACH CALL, with its reply
@@ -111,10 +113,11 @@ hits n i m l e = rw (lt-ltb n m.numbers l, e)
 
 pub stays-there : Stays
 unfolding plan_of plan_then
-stays-there n i l b w m h e = rw (h, e)
+stays-there n i l b true m h e = rw (h, e)
+stays-there n i l b false m h e = rw (h, e)
 
 evicted : {A : Type 0} (p : ℕ) (b : List ℕ) (w : Bool) (t : Cache) (k : Cache → Plan PageCall PageReply A) →
-    plan_then (plan_then (plan_then (planned (put_below p b w)) (λ _. gives t)) (λ x. gives (turned x))) k ≡ asks (put_of p b w) (λ _. k (turned t))
+    plan_then (plan_then (plan_then (planned (put_below p b (how_marked w))) (λ _. gives t)) (λ x. gives (turned x))) k ≡ asks (put_of p b w) (λ _. k (turned t))
 unfolding plan_of plan_then
 evicted p b true t k = refl
 evicted p b false t k = refl
@@ -122,6 +125,6 @@ evicted p b false t k = refl
 pub misses : Misses
 unfolding plan_of plan_then told_in
 misses n m l e c = (
-  λ u. rw (lt-ltb n m.numbers l, e, ne_eqb m.count 0 (omega arith), u),
-  λ u. rw (lt-ltb n m.numbers l, e, ne_eqb m.count 0 (omega arith), u) (evicted (tag_at m m.hand).page (frame_at m m.hand) (tag_at m m.hand).volatile (with_tag m.hand (clean (tag_at m m.hand).page) m) (λ t. asks (Get n) (λ r. gives (page_in r, filled m.hand (clean n) (page_in r) t)))),
+  λ u. rw (lt-ltb n m.numbers l, e, ne_eqb (count m) 0 (omega arith), nothing-waits (tag_at m m.hand) u),
+  λ p w u. rw (lt-ltb n m.numbers l, e, ne_eqb (count m) 0 (omega arith), ap waiting u) (evicted p (frame_at m m.hand) w (with_tag m.hand (Clean p) m) (λ t. asks (Get n) (λ r. gives (page_in r, filled m.hand (Clean n) (page_in r) t)))),
 )

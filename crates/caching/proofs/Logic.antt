@@ -8,10 +8,18 @@ use Rattle.device.specs.Priced.{spent}
 use Rattle.paging.specs.Pages.{PageCall, PageReply, page_replies, told_in, said_in}
 use Rattle.paging.specs.Judge.{State, Putting, PutAnswers, Answers, Down, kept, price, put_price}
 use Rattle.paging.proofs.Store.{put-answers}
+use Rattle.caching.specs.declared.How.{How}
+use Rattle.caching.specs.declared.How.TheVariants.{Lasting, Volatile, Through}
 use Rattle.caching.specs.Cache.{OnPages, put_below}
 
 abbrev pub planned : {A : Type 0} → OnPages A → Plan PageCall PageReply A
 planned p = plan_of page_replies p
+
+-- whether a power cut blanks what is put so
+abbrev pub volatile_as : How → Bool
+volatile_as Lasting = false
+volatile_as Volatile = true
+volatile_as Through = false
 
 module _ (z : ℕ) (Here : State → Type 0) where
   pub data Wp {A : Type 0} (There : A → State → Type 0) : ℕ → Plan PageCall PageReply A → State → Type 0 where
@@ -95,8 +103,10 @@ module _ (z : ℕ) (Here : State → Type 0) where
           held (Wp.ends h q) = Wp.ends h (goes _ _ h q)
           held (Wp.calls rest h l g) = Wp.calls rest h l (λ r t x. held (g r t x))
 
-  -- a put below, of either kind
-  pub wp-put : {There : Bool → State → Type 0} {most : ℕ} (n : ℕ) (b : List ℕ) (w : Bool) (s : State) → Here s → put_price z s ≤ most → ((r : PageReply) (t : State) → PutAnswers z n b w s r t → Here t × There (said_in r) t) → Wp There most (planned (put_below n b w)) s
+  -- a put below, of each kind
+  pub wp-put : {There : Bool → State → Type 0} {most : ℕ} (n : ℕ) (b : List ℕ) (h : How) (s : State) → Here s → put_price z s ≤ most → ((r : PageReply) (t : State) → PutAnswers z n b (volatile_as h) s r t → Here t × There (said_in r) t) →
+      Wp There most (planned (put_below n b h)) s
   unfolding plan_of price told_in
-  wp-put n b true s h l f = Wp.calls 0 h (omega arith) (λ r t a. let (k, q) = f r t (put-answers Putting.by_put_volatile a) in Wp.ends k q)
-  wp-put n b false s h l f = Wp.calls 0 h (omega arith) (λ r t a. let (k, q) = f r t (put-answers Putting.by_put a) in Wp.ends k q)
+  wp-put n b Lasting s h l f = Wp.calls 0 h (omega arith) (λ r t a. let (k, q) = f r t (put-answers Putting.by_put a) in Wp.ends k q)
+  wp-put n b Volatile s h l f = Wp.calls 0 h (omega arith) (λ r t a. let (k, q) = f r t (put-answers Putting.by_put_volatile a) in Wp.ends k q)
+  wp-put n b Through s h l f = Wp.calls 0 h (omega arith) (λ r t a. let (k, q) = f r t (put-answers Putting.by_put_through a) in Wp.ends k q)

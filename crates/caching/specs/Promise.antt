@@ -10,7 +10,8 @@ use Rattle.device.specs.Priced.{PricedLayer}
 use Rattle.paging.specs.Pages.{PageCall, Get, Put, PutVolatile, PageReply, page_in, page_replies}
 use Rattle.paging.specs.Store.{store}
 use Rattle.paging.specs.Judge.{State, kept, price}
-use Rattle.caching.specs.Frames.{Cache, clean, marked, frame_at, tag_at, with_tag, filled, turned, find}
+use Rattle.caching.specs.declared.Tag.TheVariants.{Clean, Marked}
+use Rattle.caching.specs.Frames.{Cache, count, unwritten, how_marked, frame_at, tag_at, with_tag, filled, turned, find}
 use Rattle.caching.specs.Cache.{OnPages, stays, put_with, get, cache_layer}
 use Rattle.caching.specs.Tie.{CacheOn, CacheOff}
 
@@ -39,7 +40,7 @@ Hits = (n i : ℕ) (m : Cache) → n < m.numbers → find m n ≡ Some i → ask
 
 -- Another page is read into the frame at the hand; nothing is put below but a page that is marked there.
 abbrev pub reads : ℕ → Cache → Cache → Plan PageCall PageReply (List ℕ × Cache)
-reads n m t = asks (Get n) (λ r. gives (page_in r, filled m.hand (clean n) (page_in r) (turned t)))
+reads n m t = asks (Get n) (λ r. gives (page_in r, filled m.hand (Clean n) (page_in r) (turned t)))
 
 abbrev pub put_of : ℕ → List ℕ → Bool → PageCall
 put_of n b true = PutVolatile n b
@@ -47,10 +48,10 @@ put_of n b false = Put n b
 
 abbrev pub Misses : Type 0
 Misses =
-    (n : ℕ) (m : Cache) → n < m.numbers → find m n ≡ None → 0 < m.count →
-    ((tag_at m m.hand).marked ≡ false → asking (get n m) ≡ reads n m m) ×
-    ((tag_at m m.hand).marked ≡ true → asking (get n m) ≡ asks (put_of (tag_at m m.hand).page (frame_at m m.hand) (tag_at m m.hand).volatile) (λ r. reads n m (with_tag m.hand (clean (tag_at m m.hand).page) m)))
+    (n : ℕ) (m : Cache) → n < m.numbers → find m n ≡ None → 0 < count m →
+    (unwritten (tag_at m m.hand) ≡ false → asking (get n m) ≡ reads n m m) ×
+    ((p : ℕ) (w : Bool) → tag_at m m.hand ≡ Marked p w → asking (get n m) ≡ asks (put_of p (frame_at m m.hand) w) (λ r. reads n m (with_tag m.hand (Clean p) m)))
 
 -- a put of a page that is in a frame, while something is left, asks for nothing but how much that is
 abbrev pub Stays : Type 0
-Stays = (n i l : ℕ) (b : List ℕ) (w : Bool) (m : Cache) → stays b l m ≡ true → find m n ≡ Some i → asking (put_with n b w l m) ≡ gives (true, filled i (marked n w) b m)
+Stays = (n i l : ℕ) (b : List ℕ) (w : Bool) (m : Cache) → stays b l m ≡ true → find m n ≡ Some i → asking (put_with n b (how_marked w) l m) ≡ gives (true, filled i (Marked n w) b m)

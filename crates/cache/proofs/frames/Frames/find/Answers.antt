@@ -1,17 +1,26 @@
-use Rattle.std.proofs.Common.{◌≡◌, ◌-◌, sym, ◌∙◌, arith}
-use Rattle.cache.proofs.Loops.{found_here, found-less, found_none, some_is, none-some}
+use Rattle.std.proofs.Common.{rules, ◌≡◌, ◌-◌, true, false, length, get_or, ap, arith}
+use Rattle.std.proofs.lemmas.Grind.{common_steps}
+use Rattle.caching.specs.declared.Tag.TheVariants.{Free}
+use Rattle.caching.specs.Frames.{holds}
+use Rattle.cache.proofs.Loops.{found, from-back}
 use Rattle.cache.proofs.frames.Frames.find.Goals as goal
 
-pub returns-then-holds : goal.returns-then-holds
-returns-then-holds c =
+pub returns-clause-is : goal.returns-clause-is
+returns-clause-is c =
     let s = c.args.self.now in
-    record {
-      is = found_here s.tags c.args.n c.loop-i.i s.count (omega arith) c.loop-i.invariant.1 (sym c.holds.ensures ∙ c.if-holds.true);
-      within = λ i e. let j : c.loop-i.i - 1 ≡ i = some_is e in let l = c.loop-i.invariant.0 in omega arith;
-    }
-
-pub loop-i-preserved : goal.loop-i-preserved
-loop-i-preserved c = let s = c.args.self.now in (omega (arith, c.loop-i.invariant.0), found-less s.tags c.args.n c.loop-i.i s.count (omega arith) c.loop-i.invariant.1 (sym c.holds.ensures ∙ c.if-holds.false))
-
-pub returns : goal.returns
-returns c = let s = c.args.self.now in record { is = found_none s.tags c.args.n c.loop-i.i s.count (omega arith) c.loop-i.invariant.1; within = λ i e. absurd (none-some e) }
+    let n = length c.iter.result.rest.now in
+    found s.tags c.args.n (length s.bytes.now) c.rposition.result (λ e k l. grind (arith, common_steps))
+    (λ i e.
+    let r = rw e at c.rposition.ensures.runs in
+    let w : r.0.from.rest.now ≡ c.iter.result.rest.now = ap (λ s. s.rest.now) r.1 in
+    let v : length r.0.from.rest.now ≡ n = ap length w in
+    let b = rw e at c.rposition.ensures.bound in
+    let calls = r.2.1 (λ x y f p. search rules) in
+    let q = c.iter.ensures.runs_back r.0 r.0.seen in
+    let h : holds (get_or c.iter.result.rest.now i Free) c.args.n ≡ true = from-back c.iter.result.rest.now r.0.from.rest.now r.0.at i c.args.n true _ w (q.2 i Free (omega arith) (omega arith)) calls.0 (λ y z. search rules) in (
+      omega arith,
+      grind (arith, common_steps),
+      λ k l m.
+          let z : holds (get_or c.iter.result.rest.now k Free) c.args.n ≡ false = from-back c.iter.result.rest.now r.0.from.rest.now r.0.at k c.args.n false _ w (q.2 k Free (omega arith) (omega arith)) (calls.1 (n - 1 - k) (omega arith)) (λ y z. search rules) in
+          grind (arith, common_steps),
+    ))

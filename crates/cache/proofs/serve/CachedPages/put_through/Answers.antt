@@ -1,6 +1,0 @@
-use Rattle.caching.specs.Cache.{cache_flow}
-use Rattle.cache.proofs.serve.CachedPages.put_through.Goals as goal
-
-pub returns : goal.returns
-unfolding cache_flow
-returns g c = c.put_past.ensures.runs
