@@ -1,6 +1,6 @@
 -- What the file system's values are to its machine, and when it comes up.
 -- Assumes nothing.
-use Rattle.std.specs.Prelude.{◌≡◌, ℕ, ◌+◌, ◌*◌, ◌/◌, cond, Some, None, Ok, Err, Option, Result, nat_lt}
+use Rattle.std.specs.Prelude.{◌≡◌, ℕ, ◌+◌, ◌*◌, ◌/◌, cond, List, codes, Some, None, Ok, Err, Option, Result, nat_lt}
 use Rattle.device.specs.Plays.{Asked, Told, Plays}
 use Rattle.calls.specs.declared.OpenError.{OpenError}
 use Rattle.calls.specs.declared.OpenError.TheVariants.{TooFewSectors, TooManySectors, TooFewPages, TooFewWords}
@@ -19,6 +19,12 @@ open_fault sectors pages words =
     (cond (nat_lt 1099511627776 sectors) (Some TooManySectors)
     (cond (nat_lt pages 64) (Some TooFewPages)
     (cond (nat_lt words (2 * pages_of sectors)) (Some TooFewWords) None)))
+
+abbrev pub open_error_text : OpenError → List ℕ
+open_error_text TooFewSectors = codes "a card has at least 8192 sectors of 512 bytes"
+open_error_text TooManySectors = codes "a card has at most 2^40 sectors of 512 bytes"
+open_error_text TooFewPages = codes "too few pages of memory"
+open_error_text TooFewWords = codes "too few words of memory"
 
 abbrev pub mem_of : {D : Type 0} → FileSystem D → machine.Mem
 mem_of f = tt

@@ -42,6 +42,15 @@ impl HostCard {
     pub fn trouble(&self) -> Option<&io::Error> {
         self.trouble.as_ref()
     }
+
+    // Does something with the file, unless there was trouble before.
+    fn unless_trouble<F: FnOnce(&mut File) -> io::Result<()>>(&mut self, step: F)
+        requires { F.IsAlwaysCallable step }
+    {
+        if self.trouble.is_none() {
+            self.trouble = step(&mut self.file).err();
+        }
+    }
 }
 
 fn read_sector(file: &mut File, at: u64, into: &mut [u8; 512]) -> io::Result<()> {
@@ -59,26 +68,14 @@ impl Device for HostCard {
     ghost steps = { λ s c r t. Unit {0} };
 
     fn read(&mut self, at: u64, into: &mut [u8; 512]) {
-        if self.trouble.is_none() {
-            if let Err(e) = read_sector(&mut self.file, at, into) {
-                self.trouble = Some(e);
-            }
-        }
+        self.unless_trouble(|file| read_sector(file, at, into));
     }
 
     fn write(&mut self, at: u64, bytes: &[u8; 512]) {
-        if self.trouble.is_none() {
-            if let Err(e) = write_sector(&mut self.file, at, bytes) {
-                self.trouble = Some(e);
-            }
-        }
+        self.unless_trouble(|file| write_sector(file, at, bytes));
     }
 
     fn sync(&mut self) {
-        if self.trouble.is_none() {
-            if let Err(e) = self.file.sync_all() {
-                self.trouble = Some(e);
-            }
-        }
+        self.unless_trouble(|file| file.sync_all());
     }
 }

@@ -1,11 +1,9 @@
-mod Digits
+pub mod Digits
 mod Readings
 mod Cuts
-mod Commands
-mod Counts
-mod Meanings
-mod Writings
+pub mod Commands
+pub mod Counts
 mod Roundtrips
 mod Spaces
-mod Typed
-mod Printed
+pub mod Typed
+pub mod Printed

@@ -1,30 +1,11 @@
 -- Bytes read one after another. Assumes nothing.
-use Rattle.std.proofs.Common.{◌≡◌, ℕ, zero, suc, ◌-◌, ◌<◌, ◌≤◌, Bool, true, false, cond, eqb, ltb, List, [], ◌∷◌, ◌++◌, length, get_or, take, drop, Some, None, Ok, Option, sym, refl, ap, ◌∙◌, subst, append_assoc, append-nil, arith}
+use Rattle.std.proofs.Common.{◌≡◌, ℕ, zero, suc, ◌<◌, ◌≤◌, Bool, true, false, cond, eqb, ltb, List, [], ◌∷◌, ◌++◌, length, Some, None, Ok, Option, sym, refl, ap, ◌∙◌, subst, append_assoc, append-nil, arith}
 use Rattle.std.specs.Option.{option_map, ok_or}
 use Rattle.std.specs.Str.{bytes_eq}
-use Rattle.std.proofs.lemmas.Bool.{eq-eqb, ne_eqb, lt-ltb, cond-true, cond-false, eqb-true, false≢true}
-use Rattle.std.proofs.lemmas.List.{take_rest}
+use Rattle.std.proofs.lemmas.Bool.{cond-true, cond-false, eqb-true, false≢true}
 use Rattle.lines.specs.declared.notations.Notation.{Notation}
 use Rattle.lines.specs.declared.notations.Notation.TheVariants.{Hex, Path}
-use Rattle.lines.specs.Bytes.{pair_value, first_pair, first_escaped, first_of, and_after, read_all, no_bytes, fault_of, bytes_of}
-
--- WHAT A TEXT BEGINS WITH, as the code takes it apart
-pub pair-first : (xs : List ℕ) (b : ℕ) → 2 ≤ length xs → Some b ≡ pair_value (get_or xs 0 0) (get_or xs 1 0) → Some (b, take (length xs - 2) (drop 2 xs)) ≡ first_pair xs
-pair-first [] b h e = absurd (omega arith)
-pair-first (x ∷ []) b h e = absurd (omega arith)
-pair-first (x ∷ (y ∷ rest)) b h e = ap (λ (t : List ℕ). Some (b, t)) (take_rest (x ∷ (y ∷ rest)) 2) ∙ ap (option_map (λ (v : ℕ). (v, rest))) e
-
-pub escape-first : (xs : List ℕ) → 1 ≤ length xs → get_or xs 0 0 ≡ 92 → first_pair (take (length xs - 1) (drop 1 xs)) ≡ first_escaped xs
-escape-first [] h e = absurd (omega arith)
-escape-first (x ∷ rest) h e =
-    ap first_pair (take_rest (x ∷ rest) 1) ∙ sym (cond-true (eqb x 92) (first_pair rest) (cond (ltb 32 x) (Some (x, rest)) None) (eq-eqb x 92 e))
-
-pub plain-first : (xs : List ℕ) → 1 ≤ length xs → (get_or xs 0 0 ≡ 92 → ⊥) → 32 < get_or xs 0 0 → Some (get_or xs 0 0, take (length xs - 1) (drop 1 xs)) ≡ first_escaped xs
-plain-first [] h n l = absurd (omega arith)
-plain-first (x ∷ rest) h n l =
-    ap (λ (t : List ℕ). Some (x, t)) (take_rest (x ∷ rest) 1)
-    ∙ sym (cond-true (ltb 32 x) (Some (x, rest)) None (lt-ltb 32 x l))
-    ∙ sym (cond-false (eqb x 92) (first_pair rest) (cond (ltb 32 x) (Some (x, rest)) None) (ne_eqb x 92 n))
+use Rattle.lines.specs.Bytes.{pair_value, first_pair, first_of, and_after, read_all, no_bytes, fault_of, bytes_of}
 
 -- WHAT IS LEFT is shorter
 abbrev Shorter : List ℕ → Option (ℕ × List ℕ) → Type 0
@@ -87,15 +68,16 @@ after_more : (xs : List ℕ) (b : ℕ) (o : Option (List ℕ)) → after xs (opt
 after_more xs b None = refl
 after_more xs b (Some ys) = ap Some (sym (append_assoc xs (b ∷ []) ys))
 
-pub after_none : (o : Option (List ℕ)) → after [] o ≡ o
-after_none None = refl
-after_none (Some ys) = refl
-
-pub turn : (n : Notation) (xs ys now : List ℕ) (p : ℕ × List ℕ) (whole : Option (List ℕ)) → 0 < length now → first_of n now ≡ Some p → ys ≡ xs ++ (p.0 ∷ []) → after xs (read_all (length now) n now) ≡ whole → after ys (read_all (length p.1) n p.1) ≡ whole
-turn n xs ys now p whole h e q inv =
+pub turn : (n : Notation) (xs ys now : List ℕ) (p : ℕ × List ℕ) (whole : Option (List ℕ)) → first_of n now ≡ Some p → ys ≡ xs ++ (p.0 ∷ []) → after xs (read_all (length now) n now) ≡ whole → after ys (read_all (length p.1) n p.1) ≡ whole
+turn n xs ys now p whole e q inv =
+    let s = shorter n now p e in
+    let h : 0 < length now = omega arith in
     ap (λ v. after v (read_all (length p.1) n p.1)) q ∙ sym (after_more xs p.0 (read_all (length p.1) n p.1)) ∙ ap (after xs) (sym (read_more n now p h e)) ∙ inv
 
--- A WHOLE WORD, which stands for no bytes at all or not
+-- A WHOLE WORD, which stands for no bytes at all or not. `==` on a word and text is what the definition asks
+pub same : (w t u : List ℕ) (r b : Bool) → r ≡ bytes_eq w t → t ≡ u → r ≡ b → bytes_eq w u ≡ b
+same w t u r b m e f = ap (bytes_eq w) (sym e) ∙ sym m ∙ f
+
 pub none_read : (n : Notation) (w : List ℕ) → bytes_eq w (no_bytes n) ≡ true → bytes_of n w ≡ Ok []
 unfolding bytes_of
 none_read n w e = ap (λ v. ok_or v (fault_of n)) (cond-true (bytes_eq w (no_bytes n)) (Some []) (read_all (length w) n w) e)

@@ -1,5 +1,5 @@
 -- Numbers and bytes that are printed are read back, and are one word. Assumes nothing.
-use Rattle.std.proofs.Common.{◌≡◌, ℕ, ◌+◌, ◌-◌, ◌/◌, ◌%◌, ◌^◌, ◌<◌, ◌≤◌, Bool, true, false, cond, not, ◌&&◌, eqb, ltb, leb, ◌⊎◌, List, [], ◌∷◌, ◌++◌, length, Some, None, Ok, Err, decimal, refl, ap, ◌∙◌, inl, inr, ⊎_elim, arith, rules}
+use Rattle.std.proofs.Common.{◌≡◌, ℕ, ◌+◌, ◌-◌, ◌/◌, ◌%◌, ◌^◌, ◌<◌, ◌≤◌, Bool, true, false, cond, not, ◌&&◌, eqb, ltb, leb, ◌⊎◌, List, [], ◌∷◌, ◌++◌, length, Some, None, Ok, Err, decimal, refl, ap, ◌∙◌, inl, inr, ⊎_elim, arith}
 use native.Mathlib.Nat.{div-add-mod}
 use Rattle.std.specs.Int.{is_in_range}
 use Rattle.std.specs.Char.{is_ascii_digit}
@@ -7,7 +7,6 @@ use Rattle.std.specs.Option.{option_map}
 use Rattle.std.specs.List.{AllByRecursion}
 use Rattle.std.specs.Str.{all_ascii_digits, bytes_eq}
 use Rattle.std.proofs.lemmas.Fmt.{decimal_nonempty, digits_decimal, digits_value-decimal}
-use Rattle.std.proofs.lemmas.Str.Parse.{IsNumeralModel, numerals_by_fold}
 use Rattle.std.proofs.ByRecursion.{All-append}
 use Rattle.std.proofs.lemmas.Bool.{and_parts, and_from, and_left, leb-true, le-leb, lt-ltb, ltb-true, ltb-false, ne_eqb, eqb-false, not-true, cond-true, cond-false, cond_both, cases_Bool}
 use Rattle.std.proofs.lemmas.Bool.Decides.{nat_tests}
@@ -17,15 +16,13 @@ use Rattle.lines.specs.declared.notations.Notation.TheVariants.{Hex, Path}
 use Rattle.lines.specs.Numbers.{read_on, number_of}
 use Rattle.lines.specs.Bytes.{hex_digit, hex_pair, is_plain, byte_text, all_text, no_bytes, text_of, hex_value, of_digits, pair_value, first_pair, first_escaped, first_of, read_all, bytes_of}
 use Rattle.lines.specs.Lines.{AreBytes, IsWord}
+use Rattle.lines.proofs.Digits.{own}
 use Rattle.lines.proofs.Readings.{read_more, bytes_read}
 
 abbrev Shown : ℕ → Type 0
 Shown b = (33 ≤ b) × (b ≤ 126)
 
 -- NUMBERS
-own : IsNumeralModel (λ ds. all_ascii_digits ds ≡ true) (read_on 0)
-own = numerals_by_fold _ (search rules) read_on (search rules)
-
 digits-shown : (ds : List ℕ) → all_ascii_digits ds ≡ true → AllByRecursion Shown ds
 digits-shown [] e = tt
 digits-shown (c ∷ cs) e =

@@ -1,5 +1,5 @@
 -- Every request can be typed. Assumes nothing.
-use Rattle.std.proofs.Common.{◌≡◌, ℕ, ◌^◌, ◌<◌, Bool, true, false, eqb, List, [], ◌∷◌, get_or, Some, Ok, decimal, Result, refl, ap, ◌∙◌, arith}
+use Rattle.std.proofs.Common.{◌≡◌, ℕ, ◌^◌, ◌<◌, Bool, true, false, eqb, List, [], ◌∷◌, get_or, Some, None, Ok, decimal, Result, refl, ap, ◌∙◌, arith}
 use Rattle.std.specs.List.{AllByRecursion}
 use Rattle.std.proofs.lemmas.Bool.{cond-false}
 use Rattle.model.specs.Calls.{Call, Way, Old, May, New}
@@ -19,7 +19,7 @@ use Rattle.lines.specs.Bytes.{text_of, bytes_of}
 use Rattle.lines.specs.Words.{ended}
 use Rattle.lines.specs.Verbs.{verb_word, verbs, verb_among, verb_of}
 use Rattle.lines.specs.Arguments.{Word, counted, way_for, access_for}
-use Rattle.lines.specs.Asks.{Asked, Asks, Lists, Helps, and_then, of_handle, of_path, of_paths, asked_by, Nothing, Ask, meant, verb_meant, words_meant, parse_of}
+use Rattle.lines.specs.Asks.{Asked, Asks, Lists, Helps, and_then, of_handle, of_path, of_paths, asked_by, verb_meant, words_meant, parse_of}
 use Rattle.lines.specs.Lines.{way_word, access_word, call_line, spaced, line_of, AreBytes, Fits, AskedFits, IsWord}
 use Rattle.lines.proofs.Roundtrips.{number_word, number-back, bytes_back, text-word, path-word}
 use Rattle.lines.proofs.Spaces.{words_back, shown-all}
@@ -50,10 +50,10 @@ sure (verb.OfPaths paths.Join) = (refl, (omega arith, shown-all (verb_word (verb
 sure (verb.OfPaths paths.MakeLink) = (refl, (omega arith, shown-all (verb_word (verb.OfPaths paths.MakeLink)) refl), refl)
 
 -- a verb's word, and words that it understands
-spoken : (v : Verb) (ws : List Word) (q : Asked) → AllByRecursion IsWord ws → asked_by v ws ≡ Ok q → parse_of (spaced (verb_word v) ws) ≡ Ask q
+spoken : (v : Verb) (ws : List Word) (q : Asked) → AllByRecursion IsWord ws → asked_by v ws ≡ Ok q → parse_of (spaced (verb_word v) ws) ≡ Ok (Some q)
 spoken v ws q h e =
     let s = sure v in
-    ap words_meant (words_back (verb_word v) ws s.1 h) ∙ cond-false (eqb (get_or (verb_word v) 0 0) 35) Nothing (verb_meant (verb_of (verb_word v)) ws) s.2 ∙ ap (λ o. verb_meant o ws) s.0 ∙ ap meant e
+    ap words_meant (words_back (verb_word v) ws s.1 h) ∙ cond-false (eqb (get_or (verb_word v) 0 0) 35) (Ok None) (verb_meant (verb_of (verb_word v)) ws) s.2 ∙ ap (λ o. verb_meant o ws) s.0 ∙ ap (λ r. and_then r (λ x. Ok (Some x))) e
 
 -- THE WORDS AFTER IT
 way_back : (way : Way) → way_for (way_word way) ≡ Ok way
@@ -132,8 +132,8 @@ call_back (calls.MakeLink p q) h = (paths-back paths.MakeLink p q h.0 h.1, (path
 call_back (calls.ReadLink p) h = (path-back path.ReadLink p h, (path-word p h, tt))
 call_back calls.Sync h = (refl, tt)
 
-pub lines-back : (q : Asked) → AskedFits q → parse_of (line_of q) ≡ Ask q
+pub lines_back : (q : Asked) → AskedFits q → parse_of (line_of q) ≡ Ok (Some q)
 unfolding counted
-lines-back (Asks c) h = let b = call_back c h in spoken (call_line c).verb (call_line c).words (Asks c) b.1 b.0
-lines-back (Lists n) h = spoken (verb.OfHandle handle.List) (decimal n ∷ []) (Lists n) (number_word n h, tt) (handle-back handle.List n h)
-lines-back Helps h = spoken verb.Help [] Helps tt refl
+lines_back (Asks c) h = let b = call_back c h in spoken (call_line c).verb (call_line c).words (Asks c) b.1 b.0
+lines_back (Lists n) h = spoken (verb.OfHandle handle.List) (decimal n ∷ []) (Lists n) (number_word n h, tt) (handle-back handle.List n h)
+lines_back Helps h = spoken verb.Help [] Helps tt refl

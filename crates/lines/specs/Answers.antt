@@ -1,15 +1,11 @@
 -- The text of an answer.
 -- Assumes nothing.
 use Rattle.std.specs.Prelude.{ℕ, List, ◌++◌, codes, decimal}
-use Rattle.model.specs.Calls.{Kind, AFile, AFolder, ALink, Reply, No, Done, Opened, Bytes, Told, Named, Full}
+use Rattle.model.specs.Calls.{Kind, Reply, No, Done, Opened, Bytes, Told, Named, Full}
+use Rattle.model.specs.Of.{kind_word}
 use Rattle.lines.specs.declared.notations.Notation.{Notation}
 use Rattle.lines.specs.declared.notations.Notation.TheVariants.{Path}
 use Rattle.lines.specs.Bytes.{text_of}
-
-abbrev pub kind_word : Kind → List ℕ
-kind_word AFile = codes "file"
-kind_word AFolder = codes "folder"
-kind_word ALink = codes "link"
 
 abbrev pub stat_text : Kind → (node size names : ℕ) → List ℕ
 stat_text kind node size names = kind_word kind ++ (codes " " ++ (decimal node ++ (codes " " ++ (decimal size ++ (codes " " ++ decimal names)))))

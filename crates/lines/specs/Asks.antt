@@ -72,22 +72,13 @@ asked_by (verb.OfPath v) ws = and_then (counted 1 1 ws) (λ _. and_then (bytes_o
 asked_by (verb.OfPaths v) ws = and_then (counted 2 2 ws) (λ _. and_then (bytes_of Path (slice_index_or ws 0 [])) (λ p. and_then (bytes_of Path (slice_index_or ws 1 [])) (λ q. Ok (Asks (of_paths v p q)))))
 
 -- A WHOLE LINE: nothing where it has no word or the first begins with `#`
-pub data Meant : Type 0 where
-  Nothing : Meant
-  Ask : Asked → Meant
-  Bad : Fault → Meant
+abbrev pub verb_meant : Option Verb → List Word → Result (Option Asked) Fault
+verb_meant None ws = Err fault.UnknownWord
+verb_meant (Some v) ws = and_then (asked_by v ws) (λ q. Ok (Some q))
 
-abbrev pub meant : Result Asked Fault → Meant
-meant (Ok q) = Ask q
-meant (Err why) = Bad why
+abbrev pub words_meant : List Word → Result (Option Asked) Fault
+words_meant [] = Ok None
+words_meant (w ∷ ws) = cond (slice_index w 0 == 35) (Ok None) (verb_meant (verb_of w) ws)
 
-abbrev pub verb_meant : Option Verb → List Word → Meant
-verb_meant None ws = Bad fault.UnknownWord
-verb_meant (Some v) ws = meant (asked_by v ws)
-
-abbrev pub words_meant : List Word → Meant
-words_meant [] = Nothing
-words_meant (w ∷ ws) = cond (slice_index w 0 == 35) Nothing (verb_meant (verb_of w) ws)
-
-abbrev pub parse_of : (line : List ℕ) → Meant
+abbrev pub parse_of : (line : List ℕ) → Result (Option Asked) Fault
 parse_of line = words_meant (words_of line)

@@ -1,6 +1,6 @@
 -- Bytes, as the words of a line and the answers have them.
 -- Assumes nothing.
-use Rattle.std.specs.Prelude.{ℕ, zero, suc, ◌+◌, ◌-◌, ◌*◌, ◌/◌, ◌%◌, Bool, cond, not, ◌&&◌, List, [], ◌∷◌, ◌++◌, length, Some, None, Option, Result, ◌==◌, nat_lt}
+use Rattle.std.specs.Prelude.{ℕ, zero, suc, ◌+◌, ◌-◌, ◌*◌, ◌/◌, ◌%◌, Bool, cond, not, ◌&&◌, List, [], ◌∷◌, flat_map, length, Some, None, Option, Result, ◌==◌, nat_lt}
 use Rattle.std.specs.Int.{is_in_range}
 use Rattle.std.specs.Str.{bytes_eq}
 use Rattle.std.specs.Option.{ok_or, option_map}
@@ -24,8 +24,7 @@ byte_text Hex b = hex_pair b
 byte_text Path b = cond (is_plain b) (b ∷ []) (92 ∷ hex_pair b)
 
 abbrev pub all_text : Notation → List ℕ → List ℕ
-all_text n [] = []
-all_text n (b ∷ bs) = byte_text n b ++ all_text n bs
+all_text n = flat_map (byte_text n)
 
 -- no bytes at all: nothing, or `\.`
 abbrev pub no_bytes : Notation → List ℕ

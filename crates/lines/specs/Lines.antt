@@ -4,6 +4,7 @@ use Rattle.std.specs.Prelude.{◌≡◌, ℕ, ◌^◌, ◌<◌, ◌≤◌, Bool,
 use Rattle.std.specs.List.{AllByRecursion}
 use Rattle.model.specs.Calls.{Call, Way, Old, May, New, Reply, No, Done, Opened, Bytes, Told, Named, Full}
 use Rattle.model.specs.Calls as calls
+use Rattle.model.specs.Of.{kind_word}
 use Rattle.lines.specs.declared.notations.Notation.{Notation}
 use Rattle.lines.specs.declared.notations.Notation.TheVariants.{Hex, Path}
 use Rattle.lines.specs.declared.verbs.Verb.{Verb}
@@ -17,7 +18,6 @@ use Rattle.lines.specs.Words.{ended, words_of}
 use Rattle.lines.specs.Verbs.{verb_word}
 use Rattle.lines.specs.Arguments.{Word}
 use Rattle.lines.specs.Asks.{Asked, Asks, Lists, Helps}
-use Rattle.lines.specs.Answers.{kind_word}
 
 abbrev pub way_word : Way → Word
 way_word Old = codes "old"

@@ -1,11 +1,14 @@
-ghost use Rattle.std.specs.Prelude.{◌≡◌};
-ghost use Rattle.lines.specs.Faults.{fault_text};
-ghost use Rattle.lines.specs.declared.faults.Stop.TheVariants.{Wrong, Memory};
+ghost use Rattle.std.specs.Prelude.{◌≡◌, Some};
+ghost use Rattle.lines.specs.Faults.{fault_text, error_text};
+ghost use Rattle.lines.specs.declared.faults.ParseError.TheVariants.{Wrong, Memory};
 
 use std::alloc::{AllocError, AllocFailed};
+use std::error::Error;
+use std::fmt;
+use std::fmt::Display;
 
 // Why a line asks for nothing.
-#[derive(Clone, Copy)]
+#[derive(Clone, Copy, Debug, PartialEq, Eq)]
 pub enum Fault {
     UnknownWord,
     TooFewWords,
@@ -39,33 +42,54 @@ impl Fault {
     }
 }
 
+impl fmt::Display for Fault {
+    ghost output = { λ f. Some (fault_text f) };
+
+    fn fmt<W: fmt::Write>(&self, f: &mut fmt::Formatter<W>) -> fmt::Result {
+        f.write_str(self.text())
+    }
+}
+
 // Why a line could not be read to its end.
-#[derive(Drop)]
-pub enum Stop {
+#[derive(Debug, PartialEq, Eq, Drop)]
+pub enum ParseError {
     Wrong(Fault),
     Memory,
 }
 
-impl From<Fault> for Stop {
+impl fmt::Display for ParseError {
+    ghost output = { λ e. Some (error_text e) };
+
+    fn fmt<W: fmt::Write>(&self, f: &mut fmt::Formatter<W>) -> fmt::Result {
+        match self {
+            ParseError::Wrong(fault) => fault.fmt(f),
+            ParseError::Memory => f.write_str("memory allocation failed"),
+        }
+    }
+}
+
+impl Error for ParseError {}
+
+impl From<Fault> for ParseError {
     ghost from_gives = { λ f r. r ≡ Wrong f };
 
-    fn from(fault: Fault) -> Stop {
-        Stop::Wrong(fault)
+    fn from(fault: Fault) -> ParseError {
+        ParseError::Wrong(fault)
     }
 }
 
-impl From<AllocError> for Stop {
+impl From<AllocError> for ParseError {
     ghost from_gives = { λ _ r. r ≡ Memory };
 
-    fn from(_e: AllocError) -> Stop {
-        Stop::Memory
+    fn from(_e: AllocError) -> ParseError {
+        ParseError::Memory
     }
 }
 
-impl<T: Drop> From<AllocFailed<T>> for Stop {
+impl<T: Drop> From<AllocFailed<T>> for ParseError {
     ghost from_gives = { λ _ r. r ≡ Memory };
 
-    fn from(_e: AllocFailed<T>) -> Stop {
-        Stop::Memory
+    fn from(_e: AllocFailed<T>) -> ParseError {
+        ParseError::Memory
     }
 }

@@ -3,6 +3,7 @@ ghost use Rattle.std.specs.Prelude.{◌≡◌};
 ghost use Rattle.lines.specs.Help.{help_text};
 
 // Each command with its words, a line for each.
+#[tactic(auto, unfolding(crate::specs::Verbs::verbs, crate::specs::Help::help_text))]
 pub fn help_text() -> &'static str
     ensures { result.now ≡ help_text }
 {

@@ -1,39 +1,32 @@
 // Bytes, as the words of a line and the answers have them.
-ghost use Rattle.std.specs.Prelude.{◌≡◌, ◌<◌, ◌++◌, IfOk, vec_items, string_bytes, OnOk};
-ghost use Rattle.lines.specs.Bytes.{hex_value, pair_value, first_pair, first_escaped, first_of, bytes_of, no_bytes, fault_of, hex_digit, hex_pair, is_plain, byte_text, text_of};
+ghost use Rattle.std.specs.Prelude.{◌≡◌, Some, IfOk, vec_items, string_bytes};
+ghost use Rattle.lines.specs.Bytes.{pair_value, first_pair, first_escaped, first_of, bytes_of, no_bytes, fault_of, is_plain, byte_text, text_of};
 ghost use Rattle.lines.specs.Lines.{BytesBack};
 ghost use Rattle.lines.specs.Of.{Comes, first_in};
 
-use crate::faults::{Fault, Stop};
+use crate::faults::{Fault, ParseError};
 use std::alloc::{AllocError, Global};
+use std::fmt;
+use std::fmt::Display;
 
 const ESCAPE: u8 = b'\\';
 
 const SPACE: u8 = b' ';
 
 // How bytes are written: two hexadecimal digits for each, or as they stand but for those that are escaped.
-#[derive(Clone, Copy)]
+#[derive(Clone, Copy, Debug, PartialEq, Eq)]
 pub enum Notation {
     Hex,
     Path,
 }
 
-// A hexadecimal digit, of either case.
-fn hex_value(digit: u8) -> Option<u8>
-    ensures { result ≡ hex_value digit }
-{
-    match digit {
-        b'0'..=b'9' => Some(digit - b'0'),
-        b'a'..=b'f' => Some(digit - b'a' + 10),
-        b'A'..=b'F' => Some(digit - b'A' + 10),
-        _ => None,
-    }
-}
-
+// The byte that two hexadecimal digits stand for, of either case.
 fn pair_value(high: u8, low: u8) -> Option<u8>
     ensures { result ≡ pair_value high low }
 {
-    Some(hex_value(high)? * 16 + hex_value(low)?)
+    let high = char::from(high).to_digit(16)?;
+    let low = char::from(low).to_digit(16)?;
+    Some((16 * high + low) as u8)
 }
 
 // The byte that two digits stand for, and the text after them.
@@ -50,35 +43,11 @@ fn first_pair(text: &[u8]) -> Option<(u8, &[u8])>
 fn first_escaped(text: &[u8]) -> Option<(u8, &[u8])>
     ensures { first_in result ≡ first_escaped text.now }
 {
-    let [first, rest @ ..] = text else {
-        return None;
-    };
-    if *first == ESCAPE {
-        return first_pair(rest);
+    match text {
+        [ESCAPE, rest @ ..] => first_pair(rest),
+        [first, rest @ ..] if *first > SPACE => Some((*first, rest)),
+        _ => None,
     }
-    if *first <= SPACE {
-        return None;
-    }
-    Some((*first, rest))
-}
-
-fn hex_digit(value: u8) -> char
-    requires { value < 16 }
-    ensures { result ≡ hex_digit value }
-{
-    if value < 10 {
-        char::from(b'0' + value)
-    } else {
-        char::from(b'a' - 10 + value)
-    }
-}
-
-fn push_pair(out: &mut String, byte: u8) -> Result<(), AllocError>
-    ensures { OnOk result (string_bytes out.new ≡ string_bytes out.old ++ hex_pair byte) }
-{
-    out.push(hex_digit(byte / 16))?;
-    out.push(hex_digit(byte % 16))?;
-    Ok(())
 }
 
 // Whether a byte of a path is printed as it stands.
@@ -119,7 +88,7 @@ impl Notation {
     }
 
     // The bytes that a word stands for.
-    pub(crate) fn read(self, heap: Global, word: &[u8]) -> Result<Vec<u8>, Stop>
+    pub(crate) fn read(self, heap: Global, word: &[u8]) -> Result<Vec<u8>, ParseError>
         ensures { Comes vec_items result (bytes_of self word.now) }
     {
         let mut bytes = Vec::new(heap);
@@ -127,29 +96,14 @@ impl Notation {
             return Ok(bytes);
         }
         let mut rest = word;
-        while !rest.is_empty() {
-            let Some((byte, after)) = self.first(rest) else {
-                return Err(Stop::Wrong(self.fault()));
-            };
+        while let Some((byte, after)) = self.first(rest) {
             bytes.push(byte)?;
             rest = after;
         }
-        Ok(bytes)
-    }
-
-    fn push_byte(self, out: &mut String, byte: u8) -> Result<(), AllocError>
-        ensures { OnOk result (string_bytes out.new ≡ string_bytes out.old ++ byte_text self byte) }
-    {
-        match self {
-            Notation::Hex => push_pair(out, byte),
-            Notation::Path => {
-                if is_plain(byte) {
-                    return out.push(char::from(byte));
-                }
-                out.push('\\')?;
-                push_pair(out, byte)?;
-                Ok(())
-            }
+        if rest.is_empty() {
+            Ok(bytes)
+        } else {
+            Err(self.fault().into())
         }
     }
 
@@ -158,13 +112,55 @@ impl Notation {
         ensures text { IfOk result (λ s. string_bytes s ≡ text_of self bytes.now) }
         ensures back { IfOk result (λ s. BytesBack self bytes.now (string_bytes s)) }
     {
-        if bytes.is_empty() {
-            return String::from_str(heap, self.no_bytes());
+        let written = Written {
+            bytes,
+            notation: self,
+        };
+        written.to_string(heap)
+    }
+}
+
+// A byte, as it is printed.
+#[derive(Clone, Copy)]
+struct WrittenByte {
+    byte: u8,
+    notation: Notation,
+}
+
+impl fmt::Display for WrittenByte {
+    ghost output = { λ w. Some (byte_text w.notation w.byte) };
+
+    fn fmt<W: fmt::Write>(&self, f: &mut fmt::Formatter<W>) -> fmt::Result {
+        let byte = self.byte;
+        match self.notation {
+            Notation::Hex => write!(f, "{byte:02x}"),
+            Notation::Path if is_plain(byte) => f.write_char(char::from(byte)),
+            Notation::Path => write!(f, "\\{byte:02x}"),
         }
-        let mut text = String::new(heap);
-        for byte in bytes {
-            self.push_byte(&mut text, *byte)?;
+    }
+}
+
+// Bytes, as they are printed.
+#[derive(Clone, Copy)]
+struct Written<'a> {
+    bytes: &'a [u8],
+    notation: Notation,
+}
+
+impl fmt::Display for Written<'_> {
+    ghost output = { λ w. Some (text_of w.notation w.bytes.now) };
+
+    fn fmt<W: fmt::Write>(&self, f: &mut fmt::Formatter<W>) -> fmt::Result {
+        if self.bytes.is_empty() {
+            return f.write_str(self.notation.no_bytes());
         }
-        Ok(text)
+        for byte in self.bytes {
+            let written = WrittenByte {
+                byte: *byte,
+                notation: self.notation,
+            };
+            written.fmt(f)?;
+        }
+        Ok(())
     }
 }

@@ -1,6 +1,6 @@
 // The first word of a line: what it asks for, and which words follow it.
 ghost use Rattle.std.specs.Prelude.{◌≡◌};
-ghost use Rattle.lines.specs.Verbs.{verb_word, verb_of};
+ghost use Rattle.lines.specs.Verbs.{verb_of};
 
 #[derive(Clone, Copy)]
 pub enum Verb {
@@ -42,61 +42,32 @@ pub enum PathsVerb {
     MakeLink,
 }
 
-const VERBS: [Verb; 18] = [
-    Verb::Open,
-    Verb::OfHandle(HandleVerb::Close),
-    Verb::Read,
-    Verb::Write,
-    Verb::Resize,
-    Verb::OfPath(PathVerb::Stat),
-    Verb::OfHandle(HandleVerb::StatOpen),
-    Verb::OfPath(PathVerb::MakeFolder),
-    Verb::OfPath(PathVerb::Remove),
-    Verb::OfPath(PathVerb::RemoveFolder),
-    Verb::NextName,
-    Verb::OfHandle(HandleVerb::List),
-    Verb::OfPaths(PathsVerb::Rename),
-    Verb::OfPaths(PathsVerb::Join),
-    Verb::OfPaths(PathsVerb::MakeLink),
-    Verb::OfPath(PathVerb::ReadLink),
-    Verb::Sync,
-    Verb::Help,
-];
-
 impl Verb {
-    fn word(self) -> &'static str
-        ensures { result.now ≡ verb_word self }
-    {
-        match self {
-            Verb::Open => "open",
-            Verb::OfHandle(HandleVerb::Close) => "close",
-            Verb::Read => "read",
-            Verb::Write => "write",
-            Verb::Resize => "resize",
-            Verb::OfPath(PathVerb::Stat) => "stat",
-            Verb::OfHandle(HandleVerb::StatOpen) => "statopen",
-            Verb::OfPath(PathVerb::MakeFolder) => "makefolder",
-            Verb::OfPath(PathVerb::Remove) => "remove",
-            Verb::OfPath(PathVerb::RemoveFolder) => "removefolder",
-            Verb::NextName => "next",
-            Verb::OfHandle(HandleVerb::List) => "list",
-            Verb::OfPaths(PathsVerb::Rename) => "rename",
-            Verb::OfPaths(PathsVerb::Join) => "join",
-            Verb::OfPaths(PathsVerb::MakeLink) => "makelink",
-            Verb::OfPath(PathVerb::ReadLink) => "readlink",
-            Verb::Sync => "sync",
-            Verb::Help => "help",
-        }
-    }
-
+    // No TryFrom: that a word is no verb is told apart from the faults of words by who asks.
+    #[tactic(auto, using(crate::proofs::Commands::no_verb), unfolding(crate::specs::Verbs::verbs, crate::specs::Verbs::verb_among, crate::specs::Verbs::verb_of))]
     pub fn of(word: &[u8]) -> Option<Verb>
         ensures { result ≡ verb_of word.now }
     {
-        for verb in &VERBS {
-            if word == verb.word().as_bytes() {
-                return Some(*verb);
-            }
-        }
-        None
+        Some(match str::from_utf8(word) {
+            Ok("open") => Verb::Open,
+            Ok("close") => Verb::OfHandle(HandleVerb::Close),
+            Ok("read") => Verb::Read,
+            Ok("write") => Verb::Write,
+            Ok("resize") => Verb::Resize,
+            Ok("stat") => Verb::OfPath(PathVerb::Stat),
+            Ok("statopen") => Verb::OfHandle(HandleVerb::StatOpen),
+            Ok("makefolder") => Verb::OfPath(PathVerb::MakeFolder),
+            Ok("remove") => Verb::OfPath(PathVerb::Remove),
+            Ok("removefolder") => Verb::OfPath(PathVerb::RemoveFolder),
+            Ok("next") => Verb::NextName,
+            Ok("list") => Verb::OfHandle(HandleVerb::List),
+            Ok("rename") => Verb::OfPaths(PathsVerb::Rename),
+            Ok("join") => Verb::OfPaths(PathsVerb::Join),
+            Ok("makelink") => Verb::OfPaths(PathsVerb::MakeLink),
+            Ok("readlink") => Verb::OfPath(PathVerb::ReadLink),
+            Ok("sync") => Verb::Sync,
+            Ok("help") => Verb::Help,
+            _ => return None,
+        })
     }
 }

@@ -4,7 +4,7 @@ use Rattle.std.proofs.Common.{◌≡◌, ℕ, zero, suc, ◌+◌, ◌-◌, ◌<�
 use Rattle.std.proofs.lemmas.List.{length-append, length-take, length-drop, length-replicate, get_or_append_left, get_or-append_right, get_or-take, get_or-drop, get_or_past, take_at, drop_at}
 use Rattle.std.proofs.lemmas.Bool.{cases_lt}
 use Rattle.model.specs.Calls.{resized, written}
-use Rattle.model.specs.Laws.{length_after, ReadsWritten, ReadsResized}
+use Rattle.model.specs.Laws.{length_after, ReadsWritten}
 
 pub length-resized : (n : ℕ) (bs : List ℕ) → length (resized n bs) ≡ n
 length-resized n bs = omega (arith, length-append (take n bs) (replicate (n - length bs) 0), length-take n bs, length-replicate {A = ℕ} (n - length bs) 0)
@@ -21,9 +21,6 @@ get_or-resized n bs i h =
       | inl k ↦ get_or_append_left (take n bs) (replicate (n - length bs) 0) 0 i k ∙ get_or-take n bs i 0 h
       | inr k ↦ get_or-append_right (take n bs) (replicate (n - length bs) 0) (length (take n bs)) i 0 refl k ∙ (get_or-zeros (n - length bs) (i - length (take n bs)) ∙ sym (get_or_past bs i 0 (omega arith)))
     ]
-
-pub reads_resized_lem : ReadsResized
-reads_resized_lem n old = (length-resized n old, get_or-resized n old)
 
 pub reads_written_lem : ReadsWritten
 unfolding written length_after

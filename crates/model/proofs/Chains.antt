@@ -1,10 +1,11 @@
 -- The stack of a walk is the chain of parents.
 -- Assumes nothing.
 use Rattle.std.proofs.Common.{◌≡◌, ℕ, zero, suc, ◌+◌, ◌*◌, ◌≤◌, Bool, true, false, cond, not, ◌&&◌, ◌||◌, T, eqb, ◌⊎◌, List, [], ◌∷◌, ◌++◌, length, sym, refl, ap, ◌∙◌, subst, inl, inr, arith, length-append}
+use Rattle.std.proofs.lemmas.Bool.{eq-eqb, ne_eqb, eqb-true}
 use Rattle.model.specs.Tree.{Name, Node, Fs, some, same_name, body_at, body_in, entries_of, is_folder, is_link, parent_of, lookup, count_entries, name_count, count_names, is_above}
 use Rattle.model.specs.Walk.{There, Going, On, Came, components, path_ok, dot, dot_dot, target_of, start_of, at_end, by_link, by_entry, step, steps, came, place}
 use Rattle.model.specs.Chain.{Chain, here, popped, on_stack, Passing, Along, Ended, start_stack, stack_by_link, stack_by_entry, stack_step, stack_steps, end_place, end_stack, stack_walk, going, EndsIn, RightStack, StackSteps, StackComes, StackFits, ChainAbove, ChainOnce}
-use Rattle.model.proofs.Facts.{holds, by-test, same-eqb, other-eqb, eqb_same, same_or, is_true}
+use Rattle.model.proofs.Facts.{holds, by-test, same_or, is_true}
 use Rattle.model.proofs.Nodes.{names-least}
 use Rattle.model.proofs.Entries.{entry, found_in, in_count}
 use Rattle.model.proofs.Good.{ents, Dir, Good, Live, live-up, live-hung, sound-good, above_zero, enough}
@@ -19,7 +20,7 @@ names-two k d u (x ∷ xs) n = go (eqb d x.num) refl (eqb u x.num) refl (names-t
     go :
         (s : Bool) → eqb d x.num ≡ s → (t : Bool) → eqb u x.num ≡ t → count_entries k (entries_of (body_in d xs)) + count_entries k (entries_of (body_in u xs)) ≤ count_names k xs →
         count_entries k (entries_of (cond s x.body (body_in d xs))) + count_entries k (entries_of (cond t x.body (body_in u xs))) ≤ count_entries k (entries_of x.body) + count_names k xs
-    go true e true q r = absurd (n (eqb_same d x.num e ∙ sym (eqb_same u x.num q)))
+    go true e true q r = absurd (n (eqb-true d x.num e ∙ sym (eqb-true u x.num q)))
     go true e false q r = omega (arith, names-least k u xs)
     go false e true q r = omega (arith, names-least k d xs)
     go false e false q r = omega arith
@@ -160,7 +161,7 @@ stack_fits_lem f follow p n sound ok =
 chain-short : (n : ℕ) (f : Fs) (d : ℕ) (us : List ℕ) → Chain f d us → T (is_above n f 0 d) → length us ≤ n
 unfolding is_above
 chain-short n f d [] h t = omega arith
-chain-short zero f d (u ∷ us) h t = absurd (h.1 (sym (eqb_same 0 d (is_true (eqb 0 d) t))))
+chain-short zero f d (u ∷ us) h t = absurd (h.1 (sym (eqb-true 0 d (is_true (eqb 0 d) t))))
 chain-short (suc n) f d (u ∷ us) h t = elim (above_zero n f d t) [ inl z ↦ absurd (h.1 z) | inr q ↦ let r = chain-short n f (parent_of (body_at f d)) us h.4 q.1 in omega arith ]
 
 or-none : (a : Bool) → (a || false) ≡ a
@@ -176,9 +177,9 @@ in-chain : (n : ℕ) (f : Fs) (a d : ℕ) (us : List ℕ) → Chain f d us → l
 unfolding is_above some
 in-chain zero f a d [] h l = ap (eqb a) h ∙ sym (or-none (eqb a 0))
 in-chain zero f a d (u ∷ us) h l = absurd (omega arith)
-in-chain (suc n) f a d [] h l = ap (λ t. eqb a d || (not t && is_above n f a (parent_of (body_at f d)))) (same-eqb d 0 h) ∙ ap (λ z. eqb a z || false) h
+in-chain (suc n) f a d [] h l = ap (λ t. eqb a d || (not t && is_above n f a (parent_of (body_at f d)))) (eq-eqb d 0 h) ∙ ap (λ z. eqb a z || false) h
 in-chain (suc n) f a d (u ∷ us) h l =
-    ap (λ t. eqb a d || (not t && is_above n f a (parent_of (body_at f d)))) (other-eqb d 0 h.1) ∙
+    ap (λ t. eqb a d || (not t && is_above n f a (parent_of (body_at f d)))) (ne_eqb d 0 h.1) ∙
     (ap (λ z. eqb a d || z) (in-chain n f a (parent_of (body_at f d)) us h.4 (omega arith)) ∙ (ap (λ z. eqb a z || on_stack a us) (sym h.0) ∙ or_turn (eqb a u) (eqb a 0) (some (λ (v : ℕ). eqb a v) us)))
 
 chain-live : {f : Fs} → Good f 0 → (d : ℕ) (us : List ℕ) → Chain f d us → Dir f d × ((d ≡ 0) ⊎ (1 ≤ name_count f d))
@@ -198,7 +199,7 @@ chain-once f d (u ∷ us) (v ∷ vs) h k = ap (λ z. z ∷ us) (h.0 ∙ sym k.0)
 
 chain-of : {f : Fs} → Good f 0 → (n d : ℕ) → Live f d → T (is_above n f 0 d) → (us : List ℕ) × Chain f d us
 unfolding is_above
-chain-of {f} g zero d l t = ([], sym (eqb_same 0 d (is_true (eqb 0 d) t)))
+chain-of {f} g zero d l t = ([], sym (eqb-true 0 d (is_true (eqb 0 d) t)))
 chain-of {f} g (suc n) d l t =
     elim (above_zero n f d t) [
       | inl z ↦ ([], z)

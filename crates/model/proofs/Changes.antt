@@ -1,9 +1,10 @@
 -- What each change of a tree leaves sound.
 -- Assumes nothing.
 use Rattle.std.proofs.Common.{◌≡◌, ℕ, suc, ◌+◌, ◌≤◌, false, not, T, eqb, ◌⊎◌, List, [], ◌∷◌, sym, refl, ap, ◌∙◌, subst, inl, inr, arith}
+use Rattle.std.proofs.lemmas.Bool.{eq-eqb, ne_eqb, eqb-true}
 use Rattle.model.specs.Tree.{Name, Entry, Body, File, Folder, Link, Fs, keep, same_name, body_at, with_body, with_node, entries_of, is_folder, is_file, parent_of, lookup, insert_entry, remove_entry, with_entry, without_entry, count_entries, name_count, is_above}
 use Rattle.model.specs.Sound.{name_ok, is_there}
-use Rattle.model.proofs.Facts.{or-either, or_fst, or_snd, is_true, holds, fails, same-eqb, other-eqb, eqb_same, same_or, In, in-keep, some_in}
+use Rattle.model.proofs.Facts.{or-either, or_fst, or_snd, is_true, holds, fails, same_or, In, in-keep, some_in}
 use Rattle.model.proofs.Nodes.{has, node, put_same, put_other, put_has, put-rising, put-names, names-some, has-or, in-has, in_body, folder-has, file-has, more-has, more-old, more-new, more-none, more-rising, more-names}
 use Rattle.model.proofs.Entries.{Sorted, one, sorted-keep, sorted-enter, in-enter, count-enter, count-leave, count_none, count-some}
 use Rattle.model.proofs.Good.{ents, Dir, Reach, Hung, Live, body_ok, Good, above_same, above_step, reach_live, reach-but}
@@ -105,10 +106,10 @@ module _ (f : Fs) (d : ℕ) (es : List Entry) (dir : Dir f d) where
       put-good f d (Folder (parent_of (body_at f d)) es) q q g (folder-has d f.nodes dir) tt so ea (λ e. (tt, ap (λ z. parent_of (body_at f z)) e ∙ g.top_up)) nz (λ k h. hu k (subst (λ z. T z) (re-dir k) h))
 
 pub one-other : (x k : ℕ) → (x ≡ k → ⊥) → one (eqb x k) ≡ 0
-one-other x k h = ap one (other-eqb x k h)
+one-other x k h = ap one (ne_eqb x k h)
 
 pub one_same : (x k : ℕ) → x ≡ k → one (eqb x k) ≡ 1
-one_same x k h = ap one (same-eqb x k h)
+one_same x k h = ap one (eq-eqb x k h)
 
 -- a name is left
 module _ (f : Fs) (d : ℕ) (n : Name) (k : ℕ) (more : List ℕ) (dir : Dir f d) (fo : lookup n (ents f d) ≡ k ∷ more) where
@@ -176,7 +177,7 @@ named-there {f} q k g h =
     let x = names-some k f.nodes h in
     let e = some_in (λ (e : Entry). eqb e.node k) (entries_of x.0.body) (count-some k (entries_of x.0.body) x.2) in
     let i = subst (λ b. In e.0 (entries_of b)) (sym (in_body 0 f.nodes x.0 g.rising x.1)) e.1 in
-    subst (λ z. T (is_there f z)) (eqb_same e.0.node k (is_true (eqb e.0.node k) e.2)) (g.each x.0.num e.0 i).1
+    subst (λ z. T (is_there f z)) (eqb-true e.0.node k (is_true (eqb e.0.node k) e.2)) (g.each x.0.num e.0 i).1
 
 -- a node is added
 module _ (f : Fs) (b : Body) (g : Good f 0) (ne : entries_of b ≡ []) where
@@ -187,7 +188,7 @@ module _ (f : Fs) (b : Body) (g : Good f 0) (ne : entries_of b ≡ []) where
   grown-there k t = subst (λ z. T z) (sym (more-has k f.nodes (node f.next b))) (or_fst (has k f.nodes) (eqb k f.next) t)
 
   pub grown-new : T (is_there (with_node b f) f.next)
-  grown-new = subst (λ z. T z) (sym (more-has f.next f.nodes (node f.next b))) (or_snd (has f.next f.nodes) (eqb f.next f.next) (holds (same-eqb f.next f.next refl)))
+  grown-new = subst (λ z. T z) (sym (more-has f.next f.nodes (node f.next b))) (or_snd (has f.next f.nodes) (eqb f.next f.next) (holds (eq-eqb f.next f.next refl)))
 
   pub grown-at : body_at (with_node b f) f.next ≡ b
   grown-at = more-new f.nodes (node f.next b) new-there
@@ -243,7 +244,7 @@ module _ (f : Fs) (b : Body) (g : Good f 0) (ne : entries_of b ≡ []) where
       top-there = folder-has 0 f.nodes g.top
 
       which : (k : ℕ) → T (is_there (with_node b f) k) → T (is_there f k) ⊎ (k ≡ f.next)
-      which k t = elim (or-either (has k f.nodes) (eqb k f.next) (subst (λ z. T z) (more-has k f.nodes (node f.next b)) t)) [ inl h ↦ inl h | inr h ↦ inr (eqb_same k f.next (is_true (eqb k f.next) h)) ]
+      which k t = elim (or-either (has k f.nodes) (eqb k f.next) (subst (λ z. T z) (more-has k f.nodes (node f.next b)) t)) [ inl h ↦ inl h | inr h ↦ inr (eqb-true k f.next (is_true (eqb k f.next) h)) ]
 
       old : (k : ℕ) → (k ≡ f.next → ⊥) → Dir f k → (k ≡ 0 → ⊥) → Hung (with_node b f) k
       old k h d z =

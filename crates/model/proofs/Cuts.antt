@@ -2,12 +2,13 @@
 -- Assumes nothing.
 use Rattle.std.proofs.Common.{◌≡◌, ℕ, ◌≤◌, Bool, false, ◌||◌, T, eqb, ltb, ◌⊎◌, List, [], ◌∷◌, sym, refl, subst, inl, inr, ltb→lt}
 use mathlib.Core.List.{Memᴰ}
+use Rattle.std.proofs.lemmas.Bool.{eqb-true}
 use Rattle.model.specs.Tree.{Fs, blank, some, keep, name_count, swept}
 use Rattle.model.specs.Calls.{State, fresh, is_open}
 use Rattle.model.specs.Answers.{synced, Down}
 use Rattle.model.specs.Sound.{is_there, Sound, SoundState, Reached}
 use Rattle.model.specs.Room.{Tidy, AlwaysTidy, NowIsFirst, CutNamed}
-use Rattle.model.proofs.Facts.{or-either, or_fst, holds, is_true, eqb_same}
+use Rattle.model.proofs.Facts.{or-either, or_fst, holds, is_true}
 use Rattle.model.proofs.Good.{Good, sound-good}
 use Rattle.model.proofs.Sweeps.{stays, there-swept, swept-names}
 use Rattle.model.proofs.Edits.{edit-good, Change, same, edited, opened, closed, changes}
@@ -84,6 +85,6 @@ cut_named_lem s t r d =
   where
     named : (k : ℕ) → T (eqb k 0 || ltb 0 (name_count t.now k) || false) → (k ≡ 0) ⊎ (1 ≤ name_count t.now k)
     named k h = elim (or-either (eqb k 0 || ltb 0 (name_count t.now k)) false h) [
-      | inl e ↦ elim (or-either (eqb k 0) (ltb 0 (name_count t.now k)) e) [ inl z ↦ inl (eqb_same k 0 (is_true (eqb k 0) z)) | inr z ↦ inr (ltb→lt 0 (name_count t.now k) z) ]
+      | inl e ↦ elim (or-either (eqb k 0) (ltb 0 (name_count t.now k)) e) [ inl z ↦ inl (eqb-true k 0 (is_true (eqb k 0) z)) | inr z ↦ inr (ltb→lt 0 (name_count t.now k) z) ]
       | inr e ↦ absurd e
     ]

@@ -1,11 +1,12 @@
 -- The seven edits that calls make of a tree, and which call makes which: every law about all calls goes by these cases.
 -- Assumes nothing.
 use Rattle.std.proofs.Common.{◌≡◌, ℕ, ◌+◌, Bool, true, false, not, ◌&&◌, ◌||◌, T, eqb, ltb, leb, List, [], ◌∷◌, length, sym, refl, ap, subst, inl, inr}
+use Rattle.std.proofs.lemmas.Bool.{eqb-false}
 use Rattle.model.specs.Tree.{Name, Body, File, Folder, Link, Fs, keep, body_at, with_body, with_node, entries_of, is_folder, is_link, is_file, bytes_of, parent_of, lookup, remove_entry, insert_entry, with_entry, without_entry, is_above}
 use Rattle.model.specs.Walk.{Place, Wrong, There, Missing, place, path_ok}
 use Rattle.model.specs.Calls.{Handle, Way, Old, May, New, Call, Open, Close, Read, Write, Resize, Stat, StatOpen, MakeFolder, Remove, RemoveFolder, NextName, Rename, Join, MakeLink, ReadLink, Sync, State, Out, becomes, give_handle, done_with, handle_of, lowest_free, written, resized, bytes_ok, max_file_size, opens, closes, reads, writes, resizes, stats, stats_open, makes_folder, is_empty, removes, removes_folder, next_names, renamed, renames, joins, makes_link, reads_link, names_entry, if_numbers_left, if_names_entry, follows, does}
 use Rattle.model.specs.Sound.{name_ok, is_there, SoundState}
-use Rattle.model.proofs.Facts.{and_both, or_fst, or_snd, is_false, holds, fails, by-test, unless, when, eqb-other, In}
+use Rattle.model.proofs.Facts.{and_both, or_fst, or_snd, is_false, holds, fails, by-test, unless, when, In}
 use Rattle.model.proofs.Nodes.{folder-has}
 use Rattle.model.proofs.Entries.{entry, found_in}
 use Rattle.model.proofs.Good.{ents, Dir, Live, body_ok, Good, sound-good}
@@ -213,7 +214,7 @@ module _ (s : State) (sound : SoundState s) where
       go nn ki na ei (inl q) y = absurd (fails nn (or_fst (is_empty n) (is_empty m) (holds (nil-none n q.0))))
       go nn ki na ei (inr q) (inl y) = absurd (fails nn (or_snd (is_empty n) (is_empty m) (holds (nil-none m y.0))))
       go nn ki na ei (inr q) (inr y) =
-          edited (replaces d n k e m i (q.0, q.1, q.2) (λ dir. is_false (is_above (length f.nodes) f k e) (λ t. fails na (and_both (is_folder (body_at f k)) (is_above (length f.nodes) f k e) dir t))) (y.0, y.1, y.2) (eqb-other k i ki) (none-nil (ents f i) ei))
+          edited (replaces d n k e m i (q.0, q.1, q.2) (λ dir. is_false (is_above (length f.nodes) f k e) (λ t. fails na (and_both (is_folder (body_at f k)) (is_above (length f.nodes) f k e) dir t))) (y.0, y.1, y.2) (eqb-false k i ki) (none-nil (ents f i) ei))
 
   if-numbers : (o : Out) → Ok o → Ok (if_numbers_left s o)
   if-numbers o h = unless Ok (leb 9223372036854775807 f.next) same (λ _. h)

@@ -1,9 +1,10 @@
 -- A folder's entries: names in their order, found, entered and left.
 -- Assumes nothing.
 use Rattle.std.proofs.Common.{◌≡◌, ℕ, ◌+◌, ◌<◌, ◌≤◌, Bool, true, false, cond, not, ◌&&◌, ◌||◌, T, eqb, ltb, ◌⊎◌, List, [], ◌∷◌, sym, refl, ap, ◌∙◌, subst, inl, inr, arith, ltb→lt, lt→ltb}
+use Rattle.std.proofs.lemmas.Bool.{cases_Bool, eq-eqb, eqb-true}
 use Rattle.model.specs.Tree.{Name, Entry, some, keep, same_name, less_name, lookup, insert_entry, remove_entry, count_entries}
 use Rattle.model.specs.Sound.{rising_names}
-use Rattle.model.proofs.Facts.{and-fst, and-snd, and_both, or-either, or_fst, or_snd, is_true, is_false, holds, fails, tested, by-test, cond_yes, cond_no, same-eqb, eqb_same, same_or, In, some_in}
+use Rattle.model.proofs.Facts.{and-fst, and-snd, and_both, or-either, or_fst, or_snd, is_true, is_false, holds, fails, by-test, cond_yes, cond_no, same_or, In, some_in}
 
 -- names
 pub same-is : (a b : Name) → T (same_name a b) → a ≡ b
@@ -12,14 +13,14 @@ same-is [] [] h = refl
 same-is [] (y ∷ ys) h = absurd h
 same-is (x ∷ xs) [] h = absurd h
 same-is (x ∷ xs) (y ∷ ys) h =
-    let p = eqb_same x y (is_true (eqb x y) (and-fst (eqb x y) (same_name xs ys) h)) in
+    let p = eqb-true x y (is_true (eqb x y) (and-fst (eqb x y) (same_name xs ys) h)) in
     let q = same-is xs ys (and-snd (eqb x y) (same_name xs ys) h) in
     ap (λ z. z ∷ xs) p ∙ ap (λ z. y ∷ z) q
 
 pub same_refl : (a : Name) → T (same_name a a)
 unfolding same_name
 same_refl [] = tt
-same_refl (x ∷ xs) = and_both (eqb x x) (same_name xs xs) (holds (same-eqb x x refl)) (same_refl xs)
+same_refl (x ∷ xs) = and_both (eqb x x) (same_name xs xs) (holds (eq-eqb x x refl)) (same_refl xs)
 
 pub less-irr : (a : Name) → T (less_name a a) → ⊥
 unfolding less_name
@@ -41,16 +42,16 @@ less-trans (x ∷ xs) (y ∷ ys) (z ∷ zs) p q =
     both (inl s) (inl t) f = let h = ltb→lt x y s in let k = ltb→lt y z t in first (omega arith)
     both (inl s) (inr t) f =
         let h = ltb→lt x y s in
-        let k = eqb_same y z (is_true (eqb y z) (and-fst (eqb y z) (less_name ys zs) t)) in
+        let k = eqb-true y z (is_true (eqb y z) (and-fst (eqb y z) (less_name ys zs) t)) in
         first (omega arith)
     both (inr s) (inl t) f =
-        let h = eqb_same x y (is_true (eqb x y) (and-fst (eqb x y) (less_name xs ys) s)) in
+        let h = eqb-true x y (is_true (eqb x y) (and-fst (eqb x y) (less_name xs ys) s)) in
         let k = ltb→lt y z t in
         first (omega arith)
     both (inr s) (inr t) f =
-        let h = eqb_same x y (is_true (eqb x y) (and-fst (eqb x y) (less_name xs ys) s)) in
-        let k = eqb_same y z (is_true (eqb y z) (and-fst (eqb y z) (less_name ys zs) t)) in
-        or_snd (ltb x z) (eqb x z && less_name xs zs) (and_both (eqb x z) (less_name xs zs) (holds (same-eqb x z (h ∙ k))) (f (and-snd (eqb x y) (less_name xs ys) s) (and-snd (eqb y z) (less_name ys zs) t)))
+        let h = eqb-true x y (is_true (eqb x y) (and-fst (eqb x y) (less_name xs ys) s)) in
+        let k = eqb-true y z (is_true (eqb y z) (and-fst (eqb y z) (less_name ys zs) t)) in
+        or_snd (ltb x z) (eqb x z && less_name xs zs) (and_both (eqb x z) (less_name xs zs) (holds (eq-eqb x z (h ∙ k))) (f (and-snd (eqb x y) (less_name xs ys) s) (and-snd (eqb y z) (less_name ys zs) t)))
 
 -- neither the same nor before: after
 pub less-else : (a b : Name) → same_name a b ≡ false → less_name a b ≡ false → T (less_name b a)
@@ -63,9 +64,9 @@ less-else (x ∷ xs) (y ∷ ys) p q = go (same_or x y) (λ s t. less-else xs ys 
     go : (x ≡ y) ⊎ (x ≡ y → ⊥) → (same_name xs ys ≡ false → less_name xs ys ≡ false → T (less_name ys xs)) → T (ltb y x || (eqb y x && less_name ys xs))
     go (inl e) f =
         or_snd (ltb y x) (eqb y x && less_name ys xs)
-        (and_both (eqb y x) (less_name ys xs) (holds (same-eqb y x (sym e)))
-        (f (is_false (same_name xs ys) (λ t. fails p (and_both (eqb x y) (same_name xs ys) (holds (same-eqb x y e)) t)))
-        (is_false (less_name xs ys) (λ t. fails q (or_snd (ltb x y) (eqb x y && less_name xs ys) (and_both (eqb x y) (less_name xs ys) (holds (same-eqb x y e)) t))))))
+        (and_both (eqb y x) (less_name ys xs) (holds (eq-eqb y x (sym e)))
+        (f (is_false (same_name xs ys) (λ t. fails p (and_both (eqb x y) (same_name xs ys) (holds (eq-eqb x y e)) t)))
+        (is_false (less_name xs ys) (λ t. fails q (or_snd (ltb x y) (eqb x y && less_name xs ys) (and_both (eqb x y) (less_name xs ys) (holds (eq-eqb x y e)) t))))))
     go (inr n) f =
         let h : x < y → ⊥ = λ l. fails q (or_fst (ltb x y) (eqb x y && less_name xs ys) (lt→ltb x y l)) in
         or_fst (ltb y x) (eqb y x && less_name ys xs) (lt→ltb y x (omega arith))
@@ -268,19 +269,19 @@ found_in n k more (e ∷ es) h = go (same_name n e.name) refl h (λ q. found_in 
 
 pub in_count : (es : List Entry) (x : Entry) → In x es → 1 ≤ count_entries x.node es
 in_count [] x i = absurd i
-in_count (e ∷ es) x (inl q) = let o : one (eqb x.node e.node) ≡ 1 = ap one (same-eqb x.node e.node (ap (λ (z : Entry). z.node) (sym q))) in omega (arith, count-cons x.node e es)
+in_count (e ∷ es) x (inl q) = let o : one (eqb x.node e.node) ≡ 1 = ap one (eq-eqb x.node e.node (ap (λ (z : Entry). z.node) (sym q))) in omega (arith, count-cons x.node e es)
 in_count (e ∷ es) x (inr i) = omega (arith, count-cons x.node e es, in_count es x i)
 
 pub count-some : (k : ℕ) (es : List Entry) → 1 ≤ count_entries k es → T (some (λ (e : Entry). eqb e.node k) es)
 unfolding some
 count-some k [] h = absurd (omega (arith, count_none k))
 count-some k (e ∷ es) h =
-    elim (tested (eqb k e.node)) [
-      | inl q ↦ or_fst (eqb e.node k) (some (λ (z : Entry). eqb z.node k) es) (holds (same-eqb e.node k (sym (eqb_same k e.node q))))
+    elim (cases_Bool (eqb k e.node)) [
+      | inl q ↦ or_fst (eqb e.node k) (some (λ (z : Entry). eqb z.node k) es) (holds (eq-eqb e.node k (sym (eqb-true k e.node q))))
       | inr q ↦ let o : one (eqb k e.node) ≡ 0 = ap one q in or_snd (eqb e.node k) (some (λ (z : Entry). eqb z.node k) es) (count-some k es (omega (arith, count-cons k e es)))
     ]
 
 pub some-count : (k : ℕ) (es : List Entry) → T (some (λ (e : Entry). eqb e.node k) es) → 1 ≤ count_entries k es
 some-count k es h =
     let q = some_in (λ (e : Entry). eqb e.node k) es h in
-    subst (λ z. 1 ≤ count_entries z es) (eqb_same q.0.node k (is_true (eqb q.0.node k) q.2)) (in_count es q.0 q.1)
+    subst (λ z. 1 ≤ count_entries z es) (eqb-true q.0.node k (is_true (eqb q.0.node k) q.2)) (in_count es q.0 q.1)

@@ -1,7 +1,7 @@
 -- Tests, and what is in a list.
 -- Assumes nothing.
-use Rattle.std.proofs.Common.{◌≡◌, ℕ, Bool, true, false, cond, not, ◌&&◌, ◌||◌, T, eqb, ◌⊎◌, List, [], ◌∷◌, ◌++◌, sym, refl, ap, subst, inl, inr, eqb→eq}
-use lib.Dec.{eqb_refl}
+use Rattle.std.proofs.Common.{◌≡◌, ℕ, Bool, true, false, cond, not, ◌&&◌, ◌||◌, T, eqb, ◌⊎◌, List, [], ◌∷◌, ◌++◌, sym, refl, ap, subst, inl, inr}
+use Rattle.std.proofs.lemmas.Bool.{cases_Bool, eqb-true, eqb-false}
 use Rattle.model.specs.Tree.{some, every, keep}
 
 pub and-fst : (a b : Bool) → T (a && b) → T a
@@ -42,10 +42,6 @@ holds e = subst (λ b. T b) (sym e) tt
 pub fails : {b : Bool} → b ≡ false → T b → ⊥
 fails e h = subst (λ b. T b) e h
 
-pub tested : (b : Bool) → (b ≡ true) ⊎ (b ≡ false)
-tested true = inl refl
-tested false = inr refl
-
 pub not-holds : (b : Bool) → T (not b) → b ≡ false
 not-holds true h = absurd h
 not-holds false h = refl
@@ -69,20 +65,8 @@ pub cond_no : {A : Type 0} {b : Bool} (x y : A) → b ≡ false → cond b x y �
 cond_no x y e = ap (λ b. cond b x y) e
 
 -- numbers
-pub same-eqb : (a b : ℕ) → a ≡ b → eqb a b ≡ true
-same-eqb a b e = is_true (eqb a b) (subst (λ c. T (eqb a c)) e (eqb_refl a))
-
-pub other-eqb : (a b : ℕ) → (a ≡ b → ⊥) → eqb a b ≡ false
-other-eqb a b h = is_false (eqb a b) (λ t. h (eqb→eq a b t))
-
-pub eqb_same : (a b : ℕ) → eqb a b ≡ true → a ≡ b
-eqb_same a b e = eqb→eq a b (holds e)
-
-pub eqb-other : (a b : ℕ) → eqb a b ≡ false → a ≡ b → ⊥
-eqb-other a b e h = fails e (holds (same-eqb a b h))
-
 pub same_or : (a b : ℕ) → (a ≡ b) ⊎ (a ≡ b → ⊥)
-same_or a b = elim (tested (eqb a b)) [ inl e ↦ inl (eqb_same a b e) | inr e ↦ inr (eqb-other a b e) ]
+same_or a b = elim (cases_Bool (eqb a b)) [ inl e ↦ inl (eqb-true a b e) | inr e ↦ inr (eqb-false a b e) ]
 
 -- lists
 abbrev pub In : {A : Type 0} → A → List A → Type 0

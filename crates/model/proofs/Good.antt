@@ -1,10 +1,11 @@
 -- A sound tree by what stands under each number, and back.
 -- Assumes nothing.
 use Rattle.std.proofs.Common.{◌≡◌, ℕ, zero, suc, ◌<◌, ◌≤◌, Bool, true, false, not, ◌&&◌, ◌||◌, T, eqb, ltb, ◌⊎◌, List, [], ◌∷◌, length, sym, refl, ap, ◌∙◌, subst, inl, inr, arith, ltb→lt, lt→ltb}
+use Rattle.std.proofs.lemmas.Bool.{eq-eqb, ne_eqb, eqb-true}
 use Rattle.model.specs.Tree.{Entry, Body, File, Folder, Link, Node, Fs, some, every, body_at, entries_of, is_folder, is_file, bytes_of, parent_of, count_entries, name_count, is_above}
 use Rattle.model.specs.Walk.{path_ok}
 use Rattle.model.specs.Sound.{rising_nums, rising_names, name_ok, is_there, node_ok, Sound}
-use Rattle.model.proofs.Facts.{and-fst, and-snd, and_both, or-either, or_fst, or_snd, is_true, is_false, holds, fails, not-holds, same-eqb, other-eqb, eqb_same, same_or, In, in-every, every_in}
+use Rattle.model.proofs.Facts.{and-fst, and-snd, and_both, or-either, or_fst, or_snd, is_true, is_false, holds, fails, not-holds, same_or, In, in-every, every_in}
 use Rattle.model.proofs.Nodes.{node, has-or, has_in, in-has, in_body, folder-has}
 use Rattle.model.proofs.Entries.{Sorted, rising-sorted, sorted-rising, count-some, some-count, count_none}
 
@@ -101,7 +102,7 @@ live-up {f} b g l =
 
 pub live-reach : {f : Fs} (b : ℕ) → Good f 0 → Live f b → Reach f b
 unfolding is_above
-live-reach {f} b g l = elim (same_or b 0) [ inl e ↦ (0, holds (same-eqb 0 b (sym e))) | inr n ↦ (live-hung b g l n).2 ]
+live-reach {f} b g l = elim (same_or b 0) [ inl e ↦ (0, holds (eq-eqb 0 b (sym e))) | inr n ↦ (live-hung b g l n).2 ]
 
 -- going up
 pub above_same : (n : ℕ) (f g : Fs) (a b : ℕ) → ((k : ℕ) → parent_of (body_at g k) ≡ parent_of (body_at f k)) → is_above n g a b ≡ is_above n f a b
@@ -118,26 +119,26 @@ above_zero n f b h =
     ]
   where
     go : T (eqb 0 b) ⊎ T (not (eqb b 0) && is_above n f 0 (parent_of (body_at f b))) → (b ≡ 0 → ⊥) → T (is_above n f 0 (parent_of (body_at f b)))
-    go (inl t) z = absurd (z (sym (eqb_same 0 b (is_true (eqb 0 b) t))))
+    go (inl t) z = absurd (z (sym (eqb-true 0 b (is_true (eqb 0 b) t))))
     go (inr t) z = and-snd (not (eqb b 0)) (is_above n f 0 (parent_of (body_at f b))) t
 
 pub above-start : (n : ℕ) (f : Fs) (b : ℕ) → b ≡ 0 → T (is_above n f 0 b)
 unfolding is_above
-above-start zero f b e = holds (same-eqb 0 b (sym e))
-above-start (suc n) f b e = or_fst (eqb 0 b) (not (eqb b 0) && is_above n f 0 (parent_of (body_at f b))) (holds (same-eqb 0 b (sym e)))
+above-start zero f b e = holds (eq-eqb 0 b (sym e))
+above-start (suc n) f b e = or_fst (eqb 0 b) (not (eqb b 0) && is_above n f 0 (parent_of (body_at f b))) (holds (eq-eqb 0 b (sym e)))
 
 pub above_step : (n : ℕ) (f : Fs) (b : ℕ) → T (is_above n f 0 (parent_of (body_at f b))) → T (is_above (suc n) f 0 b)
 unfolding is_above
 above_step n f b h =
     elim (same_or b 0) [
-      | inl e ↦ or_fst (eqb 0 b) (not (eqb b 0) && is_above n f 0 (parent_of (body_at f b))) (holds (same-eqb 0 b (sym e)))
-      | inr z ↦ or_snd (eqb 0 b) (not (eqb b 0) && is_above n f 0 (parent_of (body_at f b))) (and_both (not (eqb b 0)) (is_above n f 0 (parent_of (body_at f b))) (subst (λ t. T (not t)) (sym (other-eqb b 0 z)) tt) h)
+      | inl e ↦ or_fst (eqb 0 b) (not (eqb b 0) && is_above n f 0 (parent_of (body_at f b))) (holds (eq-eqb 0 b (sym e)))
+      | inr z ↦ or_snd (eqb 0 b) (not (eqb b 0) && is_above n f 0 (parent_of (body_at f b))) (and_both (not (eqb b 0)) (is_above n f 0 (parent_of (body_at f b))) (subst (λ t. T (not t)) (sym (ne_eqb b 0 z)) tt) h)
     ]
 
 pub above-self : (n : ℕ) (f : Fs) (a b : ℕ) → a ≡ b → T (is_above n f a b)
 unfolding is_above
-above-self zero f a b e = holds (same-eqb a b e)
-above-self (suc n) f a b e = or_fst (eqb a b) (not (eqb b 0) && is_above n f a (parent_of (body_at f b))) (holds (same-eqb a b e))
+above-self zero f a b e = holds (eq-eqb a b e)
+above-self (suc n) f a b e = or_fst (eqb a b) (not (eqb b 0) && is_above n f a (parent_of (body_at f b))) (holds (eq-eqb a b e))
 
 -- a tree in which the live folders are in the folders that they were in
 pub reach_live : {f : Fs} (g : Fs) → Good f 0 → ((k : ℕ) → Live f k → parent_of (body_at g k) ≡ parent_of (body_at f k)) → (n b : ℕ) → Live f b → T (is_above n f 0 b) → T (is_above n g 0 b)
@@ -168,8 +169,8 @@ reach-past f g k h (suc n) b t a =
     elim (above_zero n f b t) [
       | inl e ↦ above-start (suc n) g b e
       | inr q ↦
-          let s = is_false (is_above n f k (parent_of (body_at f b))) (λ w. fails a (or_snd (eqb k b) (not (eqb b 0) && is_above n f k (parent_of (body_at f b))) (and_both (not (eqb b 0)) (is_above n f k (parent_of (body_at f b))) (subst (λ z. T (not z)) (sym (other-eqb b 0 q.0)) tt) w))) in
-          let o : b ≡ k → ⊥ = λ e. fails a (or_fst (eqb k b) (not (eqb b 0) && is_above n f k (parent_of (body_at f b))) (holds (same-eqb k b (sym e)))) in
+          let s = is_false (is_above n f k (parent_of (body_at f b))) (λ w. fails a (or_snd (eqb k b) (not (eqb b 0) && is_above n f k (parent_of (body_at f b))) (and_both (not (eqb b 0)) (is_above n f k (parent_of (body_at f b))) (subst (λ z. T (not z)) (sym (ne_eqb b 0 q.0)) tt) w))) in
+          let o : b ≡ k → ⊥ = λ e. fails a (or_fst (eqb k b) (not (eqb b 0) && is_above n f k (parent_of (body_at f b))) (holds (eq-eqb k b (sym e)))) in
           above_step n g b (subst (λ z. T (is_above n g 0 z)) (sym (h b o)) (reach-past f g k h n (parent_of (body_at f b)) q.1 s))
     ]
 
@@ -186,7 +187,7 @@ level-once (suc n) (suc m) f b p q = ap suc (level-once n m f (parent_of (body_a
 
 level-of : (n : ℕ) (f : Fs) (b : ℕ) → T (is_above n f 0 b) → (m : ℕ) × Level m f b
 unfolding is_above
-level-of zero f b t = (0, sym (eqb_same 0 b (is_true (eqb 0 b) t)))
+level-of zero f b t = (0, sym (eqb-true 0 b (is_true (eqb 0 b) t)))
 level-of (suc n) f b t = elim (above_zero n f b t) [ inl e ↦ (0, e) | inr q ↦ let r = level-of n f (parent_of (body_at f b)) q.1 in (suc r.0, (q.0, r.1)) ]
 
 level-above : (m n : ℕ) (f : Fs) (b : ℕ) → Level m f b → m ≤ n → T (is_above n f 0 b)
@@ -300,14 +301,14 @@ hung-of f k d z h =
     let b = body_at f k in
     elim (or-either (not (is_folder b) || eqb k 0 || named f k b) (nameless f k b) h) [
       | inl t ↦ elim (or-either (not (is_folder b) || eqb k 0) (named f k b) t) [
-        | inl u ↦ elim (or-either (not (is_folder b)) (eqb k 0) u) [ inl v ↦ absurd (fails (not-holds (is_folder b) v) d) | inr v ↦ absurd (z (eqb_same k 0 (is_true (eqb k 0) v))) ]
+        | inl u ↦ elim (or-either (not (is_folder b)) (eqb k 0) u) [ inl v ↦ absurd (fails (not-holds (is_folder b) v) d) | inr v ↦ absurd (z (eqb-true k 0 (is_true (eqb k 0) v))) ]
         | inr u ↦
             let S = some (λ (e : Entry). eqb e.node k) (entries_of (body_at f (parent_of b))) in
             let u2 = and-fst (eqb (name_count f k) 1 && S) (is_above (length f.nodes) f 0 k) u in
-            inl (eqb_same (name_count f k) 1 (is_true (eqb (name_count f k) 1) (and-fst (eqb (name_count f k) 1) S u2)), some-count k (entries_of (body_at f (parent_of b))) (and-snd (eqb (name_count f k) 1) S u2), (length f.nodes, and-snd (eqb (name_count f k) 1 && S) (is_above (length f.nodes) f 0 k) u))
+            inl (eqb-true (name_count f k) 1 (is_true (eqb (name_count f k) 1) (and-fst (eqb (name_count f k) 1) S u2)), some-count k (entries_of (body_at f (parent_of b))) (and-snd (eqb (name_count f k) 1) S u2), (length f.nodes, and-snd (eqb (name_count f k) 1 && S) (is_above (length f.nodes) f 0 k) u))
       ]
       | inr t ↦
-          inr (eqb_same (name_count f k) 0 (is_true (eqb (name_count f k) 0) (and-fst (eqb (name_count f k) 0) (eqb (length (entries_of b)) 0) t)), no_length (entries_of b) (eqb_same (length (entries_of b)) 0 (is_true (eqb (length (entries_of b)) 0) (and-snd (eqb (name_count f k) 0) (eqb (length (entries_of b)) 0) t))))
+          inr (eqb-true (name_count f k) 0 (is_true (eqb (name_count f k) 0) (and-fst (eqb (name_count f k) 0) (eqb (length (entries_of b)) 0) t)), no_length (entries_of b) (eqb-true (length (entries_of b)) 0 (is_true (eqb (length (entries_of b)) 0) (and-snd (eqb (name_count f k) 0) (eqb (length (entries_of b)) 0) t))))
     ]
 
 pub sound-good : (f : Fs) → Sound f → Good f 0
@@ -331,15 +332,15 @@ of-hung f k g t =
     elim (dir-or b) [
       | inr e ↦ or_fst (N || named f k b) (nameless f k b) (or_fst N (named f k b) (or_fst (not (is_folder b)) (eqb k 0) (subst (λ z. T (not z)) (sym e.0) tt)))
       | inl d ↦ elim (same_or k 0) [
-        | inl e ↦ or_fst (N || named f k b) (nameless f k b) (or_fst N (named f k b) (or_snd (not (is_folder b)) (eqb k 0) (holds (same-eqb k 0 e))))
+        | inl e ↦ or_fst (N || named f k b) (nameless f k b) (or_fst N (named f k b) (or_snd (not (is_folder b)) (eqb k 0) (holds (eq-eqb k 0 e))))
         | inr z ↦ elim (g.hung k (holds d) z z) [
           | inl h ↦
               let one = h.0 in
               let S = some (λ (e : Entry). eqb e.node k) (entries_of (body_at f (parent_of b))) in
               or_fst (N || named f k b) (nameless f k b) (or_snd N (named f k b)
-              (and_both (eqb (name_count f k) 1 && S) (is_above (length f.nodes) f 0 k) (and_both (eqb (name_count f k) 1) S (holds (same-eqb (name_count f k) 1 h.0)) (count-some k (entries_of (body_at f (parent_of b))) h.1))
+              (and_both (eqb (name_count f k) 1 && S) (is_above (length f.nodes) f 0 k) (and_both (eqb (name_count f k) 1) S (holds (eq-eqb (name_count f k) 1 h.0)) (count-some k (entries_of (body_at f (parent_of b))) h.1))
               (enough k g (holds d, inr (omega arith)))))
-          | inr h ↦ or_snd (N || named f k b) (nameless f k b) (and_both (eqb (name_count f k) 0) (eqb (length (entries_of b)) 0) (holds (same-eqb (name_count f k) 0 h.0)) (holds (same-eqb (length (entries_of b)) 0 (ap length h.1))))
+          | inr h ↦ or_snd (N || named f k b) (nameless f k b) (and_both (eqb (name_count f k) 0) (eqb (length (entries_of b)) 0) (holds (eq-eqb (name_count f k) 0 h.0)) (holds (eq-eqb (length (entries_of b)) 0 (ap length h.1))))
         ]
       ]
     ]

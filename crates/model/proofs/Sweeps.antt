@@ -1,10 +1,11 @@
 -- What has no name and isn't open goes; the rest stays as it was.
 -- Assumes nothing.
 use Rattle.std.proofs.Common.{◌≡◌, ℕ, ◌≤◌, Bool, true, false, not, ◌||◌, T, eqb, ltb, List, [], sym, refl, ap, ◌∙◌, subst, inl, inr, arith, lt→ltb}
+use Rattle.std.proofs.lemmas.Bool.{cases_Bool, eq-eqb}
 use Rattle.model.specs.Tree.{Node, Fs, body_at, entries_of, is_folder, is_file, parent_of, count_entries, name_count, swept}
 use Rattle.model.specs.Calls.{Handle, State, is_open, becomes}
 use Rattle.model.specs.Sound.{is_there, handle_ok, SoundState}
-use Rattle.model.proofs.Facts.{and-fst, and-snd, and_both, or-either, or_fst, or_snd, is_true, holds, fails, tested, not-holds, same-eqb, same_or, In, in-keep, in-every, every_in, in_some}
+use Rattle.model.proofs.Facts.{and-fst, and-snd, and_both, or-either, or_fst, or_snd, is_true, holds, fails, not-holds, same_or, In, in-keep, in-every, every_in, in_some}
 use Rattle.model.proofs.Nodes.{names-least, has_in, in-has, in_body, kept, kept-body, gone-body, kept-has, kept-rising, kept-names}
 use Rattle.model.proofs.Entries.{Sorted, in_count}
 use Rattle.model.proofs.Good.{ents, Dir, Hung, Live, body_ok, Good, dir-or, reach_live, good-sound}
@@ -24,10 +25,10 @@ module _ (o : ℕ → Bool) (f : Fs) where
   stays_open k h = is_true (stays o f k) (or_snd (eqb k 0 || ltb 0 (name_count f k)) (o k) h)
 
   pub stays-live : (k : ℕ) → Live f k → stays o f k ≡ true
-  stays-live k l = elim l.1 [ inl e ↦ is_true (stays o f k) (or_fst (eqb k 0 || ltb 0 (name_count f k)) (o k) (or_fst (eqb k 0) (ltb 0 (name_count f k)) (holds (same-eqb k 0 e)))) | inr h ↦ stays-named k h ]
+  stays-live k l = elim l.1 [ inl e ↦ is_true (stays o f k) (or_fst (eqb k 0 || ltb 0 (name_count f k)) (o k) (or_fst (eqb k 0) (ltb 0 (name_count f k)) (holds (eq-eqb k 0 e)))) | inr h ↦ stays-named k h ]
 
   goes-nameless : (k : ℕ) → stays o f k ≡ false → (k ≡ 0 → ⊥) × (name_count f k ≡ 0)
-  goes-nameless k e = (λ z. fails e (or_fst (eqb k 0 || ltb 0 (name_count f k)) (o k) (or_fst (eqb k 0) (ltb 0 (name_count f k)) (holds (same-eqb k 0 z)))), elim (same_or (name_count f k) 0) [ inl q ↦ q | inr h ↦ absurd (fails e (holds (stays-named k (omega arith)))) ])
+  goes-nameless k e = (λ z. fails e (or_fst (eqb k 0 || ltb 0 (name_count f k)) (o k) (or_fst (eqb k 0) (ltb 0 (name_count f k)) (holds (eq-eqb k 0 z)))), elim (same_or (name_count f k) 0) [ inl q ↦ q | inr h ↦ absurd (fails e (holds (stays-named k (omega arith)))) ])
 
   pub swept_at : (k : ℕ) → stays o f k ≡ true → body_at (swept o f) k ≡ body_at f k
   swept_at k h = kept-body (stays o f) k f.nodes h
@@ -55,11 +56,11 @@ module _ (o : ℕ → Bool) (f : Fs) (g : Good f 0) where
 
   pub swept-ents : (k : ℕ) → ents (swept o f) k ≡ ents f k
   unfolding entries_of
-  swept-ents k = elim (tested (stays o f k)) [ inl h ↦ ap entries_of (swept_at o f k h) | inr h ↦ ap entries_of (gone-body (stays o f) k f.nodes h) ∙ sym (gone-ents k h) ]
+  swept-ents k = elim (cases_Bool (stays o f k)) [ inl h ↦ ap entries_of (swept_at o f k h) | inr h ↦ ap entries_of (gone-body (stays o f) k f.nodes h) ∙ sym (gone-ents k h) ]
 
   dir-stays : (k : ℕ) → Dir (swept o f) k → stays o f k ≡ true
   unfolding is_folder
-  dir-stays k d = elim (tested (stays o f k)) [ inl h ↦ h | inr h ↦ absurd (subst (λ b. T (is_folder b)) (gone-body (stays o f) k f.nodes h) d) ]
+  dir-stays k d = elim (cases_Bool (stays o f k)) [ inl h ↦ h | inr h ↦ absurd (subst (λ b. T (is_folder b)) (gone-body (stays o f) k f.nodes h) d) ]
 
   pub swept-good : Good (swept o f) 0
   swept-good =
@@ -108,7 +109,7 @@ handle-of f h t =
 pub of-handle : (f : Fs) (h : Handle) → HandleOk f h → T (handle_ok f h)
 of-handle f h q =
     and_both (is_there f h.node) (not h.writes || is_file (body_at f h.node)) q.0
-    (elim (tested h.writes) [ inl e ↦ or_snd (not h.writes) (is_file (body_at f h.node)) (q.1 (holds e)) | inr e ↦ or_fst (not h.writes) (is_file (body_at f h.node)) (subst (λ b. T (not b)) (sym e) tt) ])
+    (elim (cases_Bool h.writes) [ inl e ↦ or_snd (not h.writes) (is_file (body_at f h.node)) (q.1 (holds e)) | inr e ↦ or_fst (not h.writes) (is_file (body_at f h.node)) (subst (λ b. T (not b)) (sym e) tt) ])
 
 abbrev pub Handles : Fs → List Handle → Type 0
 Handles f hs = (h : Handle) → In h hs → HandleOk f h
@@ -121,6 +122,6 @@ pub becomes-sound : (f : Fs) (hs : List Handle) (s : State) → Good f 0 → Han
 becomes-sound f hs s g ok = (
   good-sound (swept (is_open hs) f) (swept-good (is_open hs) f g),
   in-every (handle_ok (swept (is_open hs) f)) hs (λ h i.
-      let st = stays_open (is_open hs) f h.node (in_some (λ (x : Handle). eqb x.node h.node) hs h i (holds (same-eqb h.node h.node refl))) in
+      let st = stays_open (is_open hs) f h.node (in_some (λ (x : Handle). eqb x.node h.node) hs h i (holds (eq-eqb h.node h.node refl))) in
       of-handle (swept (is_open hs) f) h (swept-there (is_open hs) f h.node st (ok h i).0, λ w. subst (λ b. T (is_file b)) (sym (swept_at (is_open hs) f h.node st)) ((ok h i).1 w))),
 )

@@ -5,7 +5,7 @@ use Rattle.std.proofs.lemmas.Bool.{cases_lt}
 use Rattle.model.specs.Tree.{Name, Entry, Body, File, Folder, Link, Node, Fs, some, keep, same_name, less_name, body_at, body_in, put_body, with_body, with_node, entries_of, is_folder, is_file, bytes_of, parent_of, lookup, insert_entry, remove_entry, with_entry, without_entry, reparented, name_count, swept, is_above, blocks, entries_weight, data_weight, name_weight}
 use Rattle.model.specs.Calls.{Handle, State, is_open, renamed, becomes}
 use Rattle.model.specs.Sound.{is_there, SoundState}
-use Rattle.model.specs.Room.{Tidy, NoHeavier, WeighsOneWay, NoPartHeavier, SweepsLighter, AloneIsLess}
+use Rattle.model.specs.Room.{Tidy, NoHeavier, WeighsOneWay, NoPartHeavier, SweepsLighter}
 use Rattle.model.proofs.Facts.{or-either, or_fst, or_snd, is_true, holds, by-test, cond_yes, cond_no, In}
 use Rattle.model.proofs.Nodes.{has, node, in-has, folder-has, file-has, more-has}
 use Rattle.model.proofs.Entries.{Sorted, After, entry, one, same-is, after-found, found_none, leave_none}
@@ -276,6 +276,3 @@ weighs_one_way_lem c s sound tidy = change-way s sound tidy (changes s sound c)
 
 pub no_part_heavier_lem : NoPartHeavier
 no_part_heavier_lem c s sound tidy l = elim (weighs_one_way_lem c s sound tidy) [ inl h ↦ (omega (arith, h.0, h.1), omega (arith, h.0, h.1)) | inr h ↦ h ]
-
-pub alone_is_less_lem : AloneIsLess
-alone_is_less_lem size f g h = omega arith

@@ -2,10 +2,11 @@
 -- Assumes nothing.
 use Rattle.std.proofs.Common.{◌≡◌, ℕ, ◌+◌, Bool, true, false, cond, not, ◌||◌, T, eqb, ltb, leb, List, [], ◌∷◌, length, take, drop, sym, refl, ap, ◌∙◌, subst, inl, inr, arith}
 use mathlib.Core.List.{Memᴰ}
+use Rattle.std.proofs.lemmas.Bool.{eqb-true, eq-eqb}
 use Rattle.model.specs.Tree.{Body, File, body_at, with_body, bytes_of, is_file, name_count}
 use Rattle.model.specs.Calls.{Handle, State, Out, Read, Write, Resize, No, Done, Bytes, handle_of, is_open, max_file_size, bytes_ok, written, resized, reads, writes, resizes, refused, replied, done_with, becomes, does}
 use Rattle.model.specs.Laws.{OnlyIts, ReadsBack}
-use Rattle.model.proofs.Facts.{is_true, holds, by-test, eqb_same, same-eqb, In, in_some}
+use Rattle.model.proofs.Facts.{is_true, holds, by-test, In, in_some}
 use Rattle.model.proofs.Nodes.{file-has}
 use Rattle.model.proofs.Changes.{put-at, put-else, filed-names}
 use Rattle.model.proofs.Sweeps.{swept_at, stays, stays_open, Handles, handles-of}
@@ -17,7 +18,7 @@ unfolding handle_of
 handle-in n [] x i = absurd i
 handle-in n (h ∷ hs) x i =
     by-test (eqb n h.num) {x = h ∷ []} {y = handle_of n hs} (λ z. In x z → In x (h ∷ hs) × (x.num ≡ n))
-    (λ e. elim [ inl q ↦ (inl q, ap (λ (z : Handle). z.num) (sym q) ∙ sym (eqb_same n h.num e)) | inr j ↦ absurd j ])
+    (λ e. elim [ inl q ↦ (inl q, ap (λ (z : Handle). z.num) (sym q) ∙ sym (eqb-true n h.num e)) | inr j ↦ absurd j ])
     (λ e j. let r = handle-in n hs x j in (inr r.0, r.1)) i
 
 pub in_mem : {A : Type 0} (xs : List A) (x : A) → In x xs → Memᴰ x xs
@@ -74,7 +75,7 @@ module _ (s : State) (from : ℕ) (bs : List ℕ) (ok : Handles s.now s.handles)
   filed-at : (x : Handle) → In x s.handles → T x.writes → body_at (becomes (with_body x.node (File (new x)) s.now) s.handles s).now x.node ≡ File (new x)
   filed-at x i w =
       let f = with_body x.node (File (new x)) s.now in
-      swept_at (is_open s.handles) f x.node (stays_open (is_open s.handles) f x.node (in_some (λ (y : Handle). eqb y.node x.node) s.handles x i (holds (same-eqb x.node x.node refl)))) ∙
+      swept_at (is_open s.handles) f x.node (stays_open (is_open s.handles) f x.node (in_some (λ (y : Handle). eqb y.node x.node) s.handles x i (holds (eq-eqb x.node x.node refl)))) ∙
       put-at s.now x.node (File (new x)) (file-has x.node s.now.nodes ((ok x i).1 w))
 
   read-file : (x : Handle) (more : List Handle) (t : State) → body_at t.now x.node ≡ File (new x) → (reads from (length bs) (x ∷ more) t).reply ≡ Bytes bs

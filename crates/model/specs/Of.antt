@@ -1,6 +1,7 @@
 -- What the values that programs use mean.
 -- Assumes nothing.
-use Rattle.std.specs.Prelude.{ℕ}
+use Rattle.std.specs.Prelude.{ℕ, List, codes}
+use Rattle.std.specs.Borrow.{Bor}
 use Rattle.model.specs.declared.Way.{Way}
 use Rattle.model.specs.declared.Way.TheVariants as way
 use Rattle.model.specs.declared.Call.{Call}
@@ -18,28 +19,38 @@ way_of way.Old = Calls.Old
 way_of way.May = Calls.May
 way_of way.New = Calls.New
 
-abbrev pub call_of : Call → Calls.Call
-call_of (call.Open w b p) = Calls.Open (way_of w) b p.now
-call_of (call.Close h) = Calls.Close h
-call_of (call.Read h from most) = Calls.Read h from most
-call_of (call.Write h from bs) = Calls.Write h from bs.now
-call_of (call.Resize h n) = Calls.Resize h n
-call_of (call.Stat p) = Calls.Stat p.now
-call_of (call.StatOpen h) = Calls.StatOpen h
-call_of (call.MakeFolder p) = Calls.MakeFolder p.now
-call_of (call.Remove p) = Calls.Remove p.now
-call_of (call.RemoveFolder p) = Calls.RemoveFolder p.now
-call_of (call.NextName h n) = Calls.NextName h n.now
-call_of (call.Rename p q) = Calls.Rename p.now q.now
-call_of (call.Join p q) = Calls.Join p.now q.now
-call_of (call.MakeLink to p) = Calls.MakeLink to.now p.now
-call_of (call.ReadLink p) = Calls.ReadLink p.now
-call_of call.Sync = Calls.Sync
+-- a call whose bytes are what f says
+abbrev pub call_by : {B : Type 0} → (f : B → List ℕ) → Call B → Calls.Call
+call_by f (call.Open w b p) = Calls.Open (way_of w) b (f p)
+call_by f (call.Close h) = Calls.Close h
+call_by f (call.Read h from most) = Calls.Read h from most
+call_by f (call.Write h from bs) = Calls.Write h from (f bs)
+call_by f (call.Resize h n) = Calls.Resize h n
+call_by f (call.Stat p) = Calls.Stat (f p)
+call_by f (call.StatOpen h) = Calls.StatOpen h
+call_by f (call.MakeFolder p) = Calls.MakeFolder (f p)
+call_by f (call.Remove p) = Calls.Remove (f p)
+call_by f (call.RemoveFolder p) = Calls.RemoveFolder (f p)
+call_by f (call.NextName h n) = Calls.NextName h (f n)
+call_by f (call.Rename p q) = Calls.Rename (f p) (f q)
+call_by f (call.Join p q) = Calls.Join (f p) (f q)
+call_by f (call.MakeLink to p) = Calls.MakeLink (f to) (f p)
+call_by f (call.ReadLink p) = Calls.ReadLink (f p)
+call_by f call.Sync = Calls.Sync
+
+abbrev pub call_of : Call (Bor (List ℕ)) → Calls.Call
+call_of = call_by (λ (p : Bor (List ℕ)). p.now)
 
 abbrev pub kind_of : Kind → Calls.Kind
 kind_of kind.File = Calls.AFile
 kind_of kind.Folder = Calls.AFolder
 kind_of kind.Link = Calls.ALink
+
+-- the word for each kind
+abbrev pub kind_word : Calls.Kind → List ℕ
+kind_word Calls.AFile = codes "file"
+kind_word Calls.AFolder = codes "folder"
+kind_word Calls.ALink = codes "link"
 
 -- the number of each refusal
 abbrev pub number_of : Refusal → ℕ

@@ -3,90 +3,132 @@
 
 pub mod laws;
 
-ghost use Rattle.std.specs.Prelude.{◌≡◌};
-ghost use Rattle.model.specs.Of.{number_of};
+ghost use Rattle.std.specs.Prelude.{◌≡◌, Some};
+ghost use Rattle.model.specs.Of.{call_by, call_of, kind_of, kind_word, number_of};
+
+use std::convert::AsSlice;
+use std::fmt;
 
 // How a file is opened: it must be there, it may be made, it must be new.
-#[derive(Clone, Copy)]
+#[derive(Clone, Copy, Debug, PartialEq, Eq)]
 pub enum Way {
     Old,
     May,
     New,
 }
 
-#[derive(Clone, Copy)]
-pub enum Call<'a> {
-    Open {
-        way: Way,
-        write: bool,
-        path: &'a [u8],
-    },
-    Close {
-        handle: u64,
-    },
-    Read {
-        handle: u64,
-        from: u64,
-        most: u64,
-    },
-    Write {
-        handle: u64,
-        from: u64,
-        bytes: &'a [u8],
-    },
-    Resize {
-        handle: u64,
-        size: u64,
-    },
-    Stat {
-        path: &'a [u8],
-    },
-    StatOpen {
-        handle: u64,
-    },
-    MakeFolder {
-        path: &'a [u8],
-    },
-    Remove {
-        path: &'a [u8],
-    },
-    RemoveFolder {
-        path: &'a [u8],
-    },
+// `B` are its bytes: borrowed where it is made, owned where it is kept.
+#[derive(Clone, Copy, Drop)]
+pub enum Call<B> {
+    Open { way: Way, write: bool, path: B },
+    Close { handle: u64 },
+    Read { handle: u64, from: u64, most: u64 },
+    Write { handle: u64, from: u64, bytes: B },
+    Resize { handle: u64, size: u64 },
+    Stat { path: B },
+    StatOpen { handle: u64 },
+    MakeFolder { path: B },
+    Remove { path: B },
+    RemoveFolder { path: B },
     // The name of an open folder that comes next after a given one; after the empty one, the first.
-    NextName {
-        handle: u64,
-        after: &'a [u8],
-    },
-    Rename {
-        old: &'a [u8],
-        new: &'a [u8],
-    },
+    NextName { handle: u64, after: B },
+    Rename { old: B, new: B },
     // A further name for a file or link.
-    Join {
-        old: &'a [u8],
-        new: &'a [u8],
-    },
-    MakeLink {
-        to: &'a [u8],
-        path: &'a [u8],
-    },
-    ReadLink {
-        path: &'a [u8],
-    },
+    Join { old: B, new: B },
+    MakeLink { to: B, path: B },
+    ReadLink { path: B },
     // When it is answered, all that was called before stands for good.
     Sync,
 }
 
-#[derive(Clone, Copy)]
+impl<B: AsSlice<u8>> Call<B> {
+    // The same call, with its bytes borrowed.
+    pub fn borrowed(&self) -> Call<&[u8]>
+        ensures { call_of result ≡ call_by B.items self.now }
+    {
+        match self {
+            Call::Open { way, write, path } => Call::Open {
+                way: *way,
+                write: *write,
+                path: path.as_slice(),
+            },
+            Call::Close { handle } => Call::Close { handle: *handle },
+            Call::Read { handle, from, most } => Call::Read {
+                handle: *handle,
+                from: *from,
+                most: *most,
+            },
+            Call::Write {
+                handle,
+                from,
+                bytes,
+            } => Call::Write {
+                handle: *handle,
+                from: *from,
+                bytes: bytes.as_slice(),
+            },
+            Call::Resize { handle, size } => Call::Resize {
+                handle: *handle,
+                size: *size,
+            },
+            Call::Stat { path } => Call::Stat {
+                path: path.as_slice(),
+            },
+            Call::StatOpen { handle } => Call::StatOpen { handle: *handle },
+            Call::MakeFolder { path } => Call::MakeFolder {
+                path: path.as_slice(),
+            },
+            Call::Remove { path } => Call::Remove {
+                path: path.as_slice(),
+            },
+            Call::RemoveFolder { path } => Call::RemoveFolder {
+                path: path.as_slice(),
+            },
+            Call::NextName { handle, after } => Call::NextName {
+                handle: *handle,
+                after: after.as_slice(),
+            },
+            Call::Rename { old, new } => Call::Rename {
+                old: old.as_slice(),
+                new: new.as_slice(),
+            },
+            Call::Join { old, new } => Call::Join {
+                old: old.as_slice(),
+                new: new.as_slice(),
+            },
+            Call::MakeLink { to, path } => Call::MakeLink {
+                to: to.as_slice(),
+                path: path.as_slice(),
+            },
+            Call::ReadLink { path } => Call::ReadLink {
+                path: path.as_slice(),
+            },
+            Call::Sync => Call::Sync,
+        }
+    }
+}
+
+#[derive(Clone, Copy, Debug, PartialEq, Eq)]
 pub enum Kind {
     File,
     Folder,
     Link,
 }
 
+impl fmt::Display for Kind {
+    ghost output = { λ k. Some (kind_word (kind_of k)) };
+
+    fn fmt<W: fmt::Write>(&self, f: &mut fmt::Formatter<W>) -> fmt::Result {
+        f.write_str(match self {
+            Kind::File => "file",
+            Kind::Folder => "folder",
+            Kind::Link => "link",
+        })
+    }
+}
+
 // What is told of a node: `size` in bytes, or in names for a folder; `names` is how many names it has itself.
-#[derive(Clone, Copy)]
+#[derive(Clone, Copy, Debug, PartialEq, Eq)]
 pub struct Stat {
     pub kind: Kind,
     pub node: u64,
@@ -95,7 +137,7 @@ pub struct Stat {
 }
 
 // Why a call is turned away; what is turned away changes nothing.
-#[derive(Clone, Copy)]
+#[derive(Clone, Copy, Debug, PartialEq, Eq)]
 pub enum Refusal {
     BadPath,
     NotFound,
@@ -115,7 +157,7 @@ pub enum Refusal {
     UnknownForm,
 }
 
-#[derive(Clone, Copy)]
+#[derive(Clone, Copy, Debug, PartialEq, Eq)]
 pub enum Reply<'a> {
     No(Refusal),
     Done,
@@ -127,12 +169,12 @@ pub enum Reply<'a> {
     Full,
 }
 
-impl Refusal {
-    // The number by which a refusal is known outside.
-    pub fn number(self) -> u8
-        ensures { result ≡ number_of self }
-    {
-        match self {
+// The number by which a refusal is known outside.
+impl From<Refusal> for u8 {
+    ghost from_gives = { λ why n. n ≡ number_of why };
+
+    fn from(why: Refusal) -> u8 {
+        match why {
             Refusal::BadPath => 1,
             Refusal::NotFound => 2,
             Refusal::NotAFolder => 3,

@@ -2,5 +2,5 @@ use Rattle.std.proofs.Common.{rules}
 use Rattle.device.specs.Plays.{Plays}
 use Rattle.calls.proofs.FileSystem.open.Goals as goal
 
-pub returns-else-words-sectors : goal.returns-else-words-sectors
-returns-else-words-sectors g c = (search rules, Plays.ends)
+pub returns-in-None : goal.returns-in-None
+returns-in-None g c = (search rules, Plays.ends)

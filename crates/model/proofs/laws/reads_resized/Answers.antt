@@ -1,5 +1,0 @@
-use Rattle.model.proofs.Bytes
-use Rattle.model.proofs.laws.reads_resized.Goals as goal
-
-pub returns : goal.returns
-returns c = Rattle.model.proofs.Bytes.reads_resized_lem
