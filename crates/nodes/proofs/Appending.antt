@@ -1,11 +1,8 @@
 -- Entries that follow those of a node, as many as have room.
 -- Assumes nothing.
-use Rattle.std.proofs.Common.{◌≡◌, ℕ, ◌+◌, ◌-◌, ◌*◌, ◌<◌, ◌≤◌, true, false, leb, ◌⊎◌, List, ◌∷◌, ◌++◌, length, get_or, take, drop, sym, refl, ap, ◌∙◌, inl, inr, arith, length-drop, take-append-drop, length-take}
-use Rattle.std.specs.List.{between}
-use Rattle.std.proofs.lemmas.List.{take-take, take_all, drop_more}
-use Rattle.std.proofs.lemmas.List.Edits.{get_or-between}
+use Rattle.std.proofs.Common.{◌≡◌, ℕ, ◌+◌, ◌-◌, ◌*◌, ◌<◌, ◌≤◌, true, false, leb, List, ◌∷◌, ◌++◌, length, sym, ap, ◌∙◌, inl, inr, arith}
 use Rattle.std.proofs.lemmas.Bool.{le-leb, lt-leb, leb-true, leb-false, and_parts, and_cases}
-use Rattle.nodes.specs.Entries.{Entry, blank, entry_weight, weight_of, fitting}
+use Rattle.nodes.specs.Entries.{Entry, entry_weight, weight_of, fitting}
 use Rattle.nodes.specs.Page.{entries_of, weight_at, IsNode, has_room, Appended}
 use Rattle.nodes.proofs.Encode.{weight-append}
 use Rattle.nodes.proofs.Fitting.{fitting-all, fitting-stops}
@@ -47,23 +44,3 @@ cut_off p l es fs e gs hs s h k =
       node = as-entries (ap (λ (xs : List Entry). es ++ xs) (sym (ap (fitting (4088 - weight_of es)) s ∙ f))) h;
       whole = λ z. absurd (let q : ◌≡◌ {A = ℕ} 0 1 = cc in omega arith);
     }
-
--- a range parted at one of its entries
-pub range-parts : (es : List Entry) (i k j : ℕ) → i ≤ k → k < j → k < length es → between i j es ≡ between i k es ++ (get_or es k blank ∷ drop (k - i + 1) (between i j es))
-range-parts es i k j h lt lk =
-    let n : length (between i j es) ≡ length (take (j - i) (drop i es)) = refl in
-    let a = length-take (j - i) (drop i es) in
-    let b = length-drop i es in
-    let m : i + (k - i) ≡ k = omega arith in
-    let front : take (k - i) (between i j es) ≡ between i k es = take-take (k - i) (j - i) (drop i es) (omega arith) in
-    let here : get_or (between i j es) (k - i) blank ≡ get_or es k blank = get_or-between es i j (k - i) blank (omega arith) ∙ ap (λ (x : ℕ). get_or es x blank) m in
-    sym (take-append-drop (k - i) (between i j es))
-    ∙ ap (λ (xs : List Entry). xs ++ drop (k - i) (between i j es)) front
-    ∙ ap (λ (xs : List Entry). between i k es ++ xs) (drop_more (between i j es) (k - i) blank (omega arith) ∙ ap (λ (x : Entry). x ∷ drop (k - i + 1) (between i j es)) here)
-
--- a range that ends past the last entry, or nowhere else
-pub range-end : (es : List Entry) (i j k : ℕ) → ((length es ≤ k) × (length es ≤ j)) ⊎ (k - i ≡ j - i) → between i k es ≡ between i j es
-range-end es i j k (inl h) =
-    let n = length-drop i es in
-    take_all (k - i) (drop i es) (omega (arith, h.0)) ∙ sym (take_all (j - i) (drop i es) (omega (arith, h.1)))
-range-end es i j k (inr e) = ap (λ (n : ℕ). take n (drop i es)) e

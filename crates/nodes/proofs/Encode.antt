@@ -4,7 +4,7 @@ use Rattle.std.proofs.Common.{◌≡◌, ℕ, suc, ◌+◌, ◌-◌, ◌*◌, �
 use native.Mathlib.Nat.{mod-add-div}
 use lib.ListN.{length-replicate}
 use lib.Seq.{split_at}
-use Rattle.std.proofs.lemmas.List.{take_at, drop_at, append-nil, length-take-le, ext_get_or, get_or-append-add, drop-drop}
+use Rattle.std.proofs.lemmas.List.{get_or_at, take_at, drop_at, append-nil, length-take-le, ext_get_or, get_or-append-add, drop-drop}
 use Rattle.nodes.specs.Entries.{Entry, blank, weight_of, Fits}
 use Rattle.nodes.specs.Page.{two_bytes, item, body, slots, head, encode, word_at, slot_at, text_at, entry_at, level_of, entries_of}
 use Rattle.nodes.proofs.Entries.{length-entries, get_or-entries}
@@ -58,16 +58,12 @@ length-encode l es h =
     omega arith
 
 -- a word, and a text after its length, where they stand among other bytes
-get_or-next : (p q : List ℕ) (a b : ℕ) → get_or (p ++ (a ∷ b ∷ q)) (length p) 0 ≡ a
-get_or-next [] q a b = refl
-get_or-next (x ∷ p) q a b = get_or-next p q a b
-
 get_or-after : (p q : List ℕ) (a b : ℕ) → get_or (p ++ (a ∷ b ∷ q)) (length p + 1) 0 ≡ b
 get_or-after p q a b = get_or-append-add p (a ∷ b ∷ q) 1 0
 
 pub word_at-at : (p q : List ℕ) (n at : ℕ) → length p ≡ at → word_at (p ++ (two_bytes n ++ q)) at ≡ n
 word_at-at p q n at h =
-    let a = get_or-next p q (n % 256) (n / 256) in
+    let a = get_or_at p (n % 256) (n / 256 ∷ q) 0 (length p) refl in
     let b = get_or-after p q (n % 256) (n / 256) in
     let w = word-is n in
     rw (← h) (rw (a, b) w)

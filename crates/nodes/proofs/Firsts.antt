@@ -1,11 +1,13 @@
 -- The first entry that passes a test.
 -- Assumes nothing.
-use Rattle.std.proofs.Common.{◌≡◌, ℕ, zero, suc, ◌+◌, ◌<◌, ◌≤◌, Bool, true, false, cond, ◌&&◌, ltb, List, [], ◌∷◌, length, get_or, drop, sym, ap, ◌∙◌, inl, inr, add-one, arith}
-use Rattle.std.proofs.lemmas.List.{at_drop_more, at_drop_all}
+use Rattle.std.proofs.Common.{◌≡◌, ℕ, zero, suc, ◌+◌, ◌<◌, ◌≤◌, Bool, true, false, cond, ◌&&◌, ltb, Option, Result, Ok, Err, List, [], ◌∷◌, length, get_or, sym, refl, ap, ◌∙◌, inl, inr, add-one, arith}
+use Rattle.std.specs.List.{AllWithin, HoldsAt}
+use Rattle.std.specs.Option.{MatchOption, unwrap_or}
+use Rattle.std.proofs.lemmas.Iterator.{index_from_first}
 use Rattle.std.proofs.lemmas.Bool.{cases_Bool, cases_order, both_ways, lt-ltb, le-ltb}
 use Rattle.nodes.specs.Entries.{Entry, blank}
 use Rattle.model.specs.Tree.{same_name}
-use Rattle.nodes.specs.Firsts.{first_where, first_from, has_key}
+use Rattle.nodes.specs.Firsts.{first_where, first_from, found}
 use Rattle.nodes.specs.Laws.{First, FirstIsFirst}
 
 module _ (f : Entry → Bool) where
@@ -16,17 +18,6 @@ module _ (f : Entry → Bool) where
   first-fail : (e : Entry) (es : List Entry) → f e ≡ false → first_where f (e ∷ es) ≡ first_where f es + 1
   unfolding first_where
   first-fail e es h = ap (λ (b : Bool). cond b 0 (first_where f es + 1)) h
-
-  -- one place on, in a row that is gone through
-  pub first_on : (es : List Entry) (i : ℕ) → i < length es → f (get_or es i blank) ≡ false → first_where f (drop i es) ≡ first_where f (drop (i + 1) es) + 1
-  first_on es i h e = at_drop_more (first_where f) es i blank h ∙ first-fail (get_or es i blank) (drop (i + 1) es) e
-
-  pub first-here : (es : List Entry) (i : ℕ) → i < length es → f (get_or es i blank) ≡ true → first_where f (drop i es) ≡ 0
-  first-here es i h e = at_drop_more (first_where f) es i blank h ∙ first-pass (get_or es i blank) (drop (i + 1) es) e
-
-  pub first-end : (es : List Entry) (i : ℕ) → length es ≤ i → first_where f (drop i es) ≡ 0
-  unfolding first_where
-  first-end es i h = at_drop_all (first_where f) es i h
 
   is-first : (es : List Entry) → First f es (first_where f es)
   unfolding first_where
@@ -51,18 +42,21 @@ module _ (f : Entry → Bool) where
         | inr o ↦ elim o [ inl h ↦ absurd (apart es m n a b h) | inr h ↦ absurd (apart es n m b a h) ]
       ]
 
-pub first-within : (f : Entry → Bool) (es : List Entry) → first_where f es ≤ length es
-first-within f es = (is-first f es).within
-
 pub first-is-first : FirstIsFirst
 first-is-first f es = (is-first f es, λ n h. same_first f es n (first_where f es) h (is-first f es))
 
--- whether a key stands at its place
-abbrev test : List ℕ → List Entry → ℕ → Bool
-test k es n = ltb n (length es) && same_name k (get_or es n blank).key
+-- the first entry, as a look-up through an iterator says its place
+pub first-index : (f : Entry → Bool) (es : List Entry) (r : Option ℕ) → MatchOption r (AllWithin (λ e. f e ≡ false) es 0 (length es)) (λ i. (i < length es) × HoldsAt (λ e. f e ≡ true) es i × AllWithin (λ e. f e ≡ false) es 0 i) → first_where f es ≡ unwrap_or r (length es)
+unfolding first_where
+first-index f es r h = index_from_first (first_where f) (λ e. f e ≡ true) (λ e. f e ≡ false) refl (first-pass f) (first-fail f) es r h
 
-pub has_here : (k : List ℕ) (es : List Entry) (i : ℕ) → i ≡ first_from k es → i < length es → has_key k es ≡ same_name k (get_or es i blank).key
-has_here k es i e h = ap (test k es) (sym e) ∙ ap (λ (b : Bool). b && same_name k (get_or es i blank).key) (lt-ltb i (length es) h)
+-- what a look-up answers, from the place of the first entry whose key is not before k, and whether that is k
+abbrev answer : List ℕ → List Entry → ℕ → Result ℕ ℕ
+answer k es n = cond (ltb n (length es) && same_name k (get_or es n blank).key) (Ok n) (Err n)
 
-pub has-none : (k : List ℕ) (es : List Entry) (i : ℕ) → i ≡ first_from k es → length es ≤ i → has_key k es ≡ false
-has-none k es i e h = ap (test k es) (sym e) ∙ ap (λ (b : Bool). b && same_name k (get_or es i blank).key) (le-ltb i (length es) h)
+pub found-none : (k : List ℕ) (es : List Entry) (i : ℕ) → first_from k es ≡ i → length es ≤ i → Err i ≡ found k es
+found-none k es i e h = sym (ap (answer k es) e ∙ ap (λ (x : Bool). cond (x && same_name k (get_or es i blank).key) (Ok i) (Err i)) (le-ltb i (length es) h))
+
+pub found-at : (k : List ℕ) (es : List Entry) (i : ℕ) (b : Bool) → first_from k es ≡ i → i < length es → b ≡ same_name k (get_or es i blank).key → cond b (Ok i) (Err i) ≡ found k es
+found-at k es i b e h t =
+    sym (ap (answer k es) e ∙ ap (λ (x : Bool). cond (x && same_name k (get_or es i blank).key) (Ok i) (Err i)) (lt-ltb i (length es) h) ∙ ap (λ (x : Bool). cond x (Ok i) (Err i)) (sym t))

@@ -1,8 +1,8 @@
 -- The shortest front of entries that weighs at least so much.
 -- Assumes nothing.
-use Rattle.std.proofs.Common.{◌≡◌, ℕ, zero, suc, ◌+◌, ◌-◌, ◌<◌, ◌≤◌, List, [], ◌∷◌, length, get_or, take, drop, sym, refl, ap, ◌∙◌, inl, inr, zero-add, add-one, arith}
+use Rattle.std.proofs.Common.{◌≡◌, ℕ, zero, suc, ◌+◌, ◌-◌, ◌<◌, List, [], ◌∷◌, length, get_or, take, drop, sym, refl, ap, ◌∙◌, inl, inr, zero-add, add-one, arith}
 use native.Mathlib.Nat.{sub-zero}
-use Rattle.std.proofs.lemmas.List.{at_drop_more, at_drop_all, take_more}
+use Rattle.std.proofs.lemmas.List.{at_drop_more, take_more}
 use Rattle.std.proofs.lemmas.Bool.{cases_order}
 use Rattle.nodes.specs.Entries.{Entry, blank, entry_weight, weight_of, front_count}
 use Rattle.nodes.specs.Laws.{Shortest, FrontIsShortest, FrontJoins}
@@ -13,7 +13,7 @@ unfolding front_count
 front-step zero e es h = absurd (omega arith)
 front-step (suc t) e es h = refl
 
-front-none : (t : ℕ) → front_count t [] ≡ 0
+pub front-none : (t : ℕ) → front_count t [] ≡ 0
 unfolding front_count
 front-none zero = refl
 front-none (suc t) = refl
@@ -25,9 +25,6 @@ front-on t es i h k = at_drop_more (front_count t) es i blank h ∙ front-step t
 pub front-enough : (t : ℕ) (es : List Entry) → t ≡ 0 → front_count t es ≡ 0
 unfolding front_count
 front-enough t es h = ap (λ (n : ℕ). front_count n es) h
-
-pub front-end : (t : ℕ) (es : List Entry) (i : ℕ) → length es ≤ i → front_count t (drop i es) ≡ 0
-front-end t es i h = at_drop_all (front_count t) es i h ∙ front-none t
 
 -- what one entry more weighs
 pub weight-more : (es : List Entry) (i : ℕ) → i < length es → weight_of (take (i + 1) es) ≡ weight_of (take i es) + entry_weight (get_or es i blank)

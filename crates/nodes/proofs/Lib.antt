@@ -4,8 +4,8 @@ pub mod Nodes
 pub mod Plain
 pub mod Puts
 pub mod Firsts
+pub mod Order
 pub mod Rising
 pub mod Fronts
 pub mod Fitting
 pub mod Appending
-pub mod Digits

@@ -1,6 +1,6 @@
 -- Places among the entries of a node, by their keys. How they are found is left open.
 -- Assumes nothing.
-use Rattle.std.specs.Prelude.{◌≡◌, ℕ, ◌+◌, ◌<◌, Bool, true, cond, not, ◌&&◌, List, [], ◌∷◌, length, nat_lt, slice_index_or}
+use Rattle.std.specs.Prelude.{◌≡◌, ℕ, ◌+◌, ◌<◌, Bool, true, cond, not, ◌&&◌, Result, Ok, Err, List, [], ◌∷◌, length, nat_lt, slice_index_or}
 use Rattle.model.specs.Tree.{less_name, same_name}
 use Rattle.nodes.specs.Entries.{Entry, blank}
 
@@ -20,6 +20,10 @@ first_after k es = first_where (λ e. less_name k e.key) es
 -- the first entry whose key is not before k has that very key
 abbrev pub has_key : List ℕ → List Entry → Bool
 has_key k es = nat_lt (first_from k es) (length es) && same_name k (slice_index_or es (first_from k es) blank).key
+
+-- what a look-up of k answers: Ok and the place where it stands, or Err and the place where it would
+abbrev pub found : List ℕ → List Entry → Result ℕ ℕ
+found k es = cond (has_key k es) (Ok (first_from k es)) (Err (first_from k es))
 
 -- each key is before all that follow it
 abbrev pub Rising : List Entry → Type 0

@@ -4,7 +4,6 @@
 pub mod build;
 pub mod laws;
 pub mod numbers;
-mod order;
 pub mod places;
 mod raw;
 pub mod read;

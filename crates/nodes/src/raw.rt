@@ -28,27 +28,23 @@ pub const EXTRA: usize = 6;
 pub fn byte(page: &[u8; 4096], at: usize) -> u8
     ensures { result ≡ slice_index page.now at }
 {
-    if at < 4096 { page[at] } else { 0 }
+    page.get(at).copied().unwrap_or(0)
 }
 
 // The number in the two bytes at a place.
-pub fn word(page: &[u8; 4096], at: usize) -> usize
+pub fn word(page: &[u8; 4096], at: usize) -> u16
     requires { at < 2 ^ 32 }
-    ensures is { result ≡ word_at page.now at }
-    ensures small { result < 65536 }
+    ensures { result ≡ word_at page.now at }
 {
-    byte(page, at) as usize + 256 * byte(page, at + 1) as usize
+    u16::from_le_bytes([byte(page, at), byte(page, at + 1)])
 }
 
 // The bytes from a place on, as many as asked for or as there are.
 pub fn part(page: &[u8; 4096], at: usize, n: usize) -> &[u8]
     ensures { result.now ≡ take n (drop at page.now) }
 {
-    if at >= 4096 {
-        return &page[4096..4096];
-    }
-    let m = n.min(4096 - at);
-    &page[at..at + m]
+    let rest = page.get(at..).unwrap_or(&[]);
+    rest.get(..n).unwrap_or(rest)
 }
 
 // The bytes that stand at a place after their length.
@@ -56,15 +52,13 @@ pub fn text(page: &[u8; 4096], at: usize) -> &[u8]
     requires { at < 2 ^ 32 }
     ensures { result.now ≡ text_at page.now at }
 {
-    let n = word(page, at);
-    part(page, at + 2, n)
+    part(page, at + 2, usize::from(word(page, at)))
 }
 
 // Where the entry i begins.
-pub fn slot(page: &[u8; 4096], i: usize) -> usize
+pub fn slot(page: &[u8; 4096], i: usize) -> u16
     requires { i < 65536 }
-    ensures is { result ≡ slot_at page.now i }
-    ensures small { result < 65536 }
+    ensures { result ≡ slot_at page.now i }
 {
     word(page, SLOTS_AT.saturating_sub(2 * i))
 }
@@ -74,17 +68,15 @@ pub fn put(page: &mut [u8; 4096], at: usize, bytes: &[u8])
     requires { at + length bytes.now ≤ 4096 }
     ensures { page.new ≡ put_at at bytes.now page.old }
 {
-    let n = bytes.len();
-    page[at..at + n].copy_from_slice(bytes);
+    page[at..at + bytes.len()].copy_from_slice(bytes);
 }
 
 // A number put at a place, in two bytes.
-pub fn put_word(page: &mut [u8; 4096], at: usize, n: usize)
-    requires { (at + 2 ≤ 4096) × (n < 65536) }
+pub fn put_word(page: &mut [u8; 4096], at: usize, n: u16)
+    requires { at + 2 ≤ 4096 }
     ensures { page.new ≡ put_at at (two_bytes n) page.old }
 {
-    let two = [(n % 256) as u8, (n / 256) as u8];
-    put(page, at, &two);
+    put(page, at, &n.to_le_bytes());
 }
 
 // An entry put at a place: key and value, each after its length.
@@ -92,8 +84,8 @@ pub fn put_entry(page: &mut [u8; 4096], at: usize, key: &[u8], value: &[u8])
     requires { at + (length key.now + length value.now + 4) ≤ 4096 }
     ensures { page.new ≡ put_at at (item (entry_of key.now value.now)) page.old }
 {
-    put_word(page, at, key.len());
+    put_word(page, at, key.len() as u16);
     put(page, at + 2, key);
-    put_word(page, at + 2 + key.len(), value.len());
+    put_word(page, at + 2 + key.len(), value.len() as u16);
     put(page, at + 2 + key.len() + 2, value);
 }
