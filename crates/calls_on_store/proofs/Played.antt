@@ -1,12 +1,15 @@
 -- What the code asks of the store is what the machine does on the device.
 -- Assumes nothing.
-use Rattle.std.proofs.Common.{◌≡◌, ℕ, ◌*◌, ◌≤◌, Bool, true, false, cond, ltb, List, Some, None, Option, sym, refl, ap, ◌∙◌, arith, MutBor}
+use Rattle.std.proofs.Common.{◌≡◌, ℕ, ◌*◌, ◌≤◌, Bool, true, false, cond, ltb, List, Some, None, Ok, Err, Option, Result, sym, refl, ap, ◌∙◌, subst, Bor, MutBor}
 use mathlib.Core.Path.{subst⁻¹}
 use Rattle.std.proofs.lemmas.Bool.{le-ltb}
+use Rattle.std.specs.Option.{option_map}
+use Rattle.std.specs.Result.{MatchResult}
 use Rattle.device.specs.Program.{Io, and_then}
 use Rattle.device.specs.Layer.{through}
-use Rattle.device.specs.Flow.{Flow, Runs}
+use Rattle.device.specs.Flow.{Flow, Runs, is}
 use Rattle.device.specs.Plays.{Asked, Told, Plays, Follows, plan_of, among}
+use Rattle.device.proofs.Loops.{taken, left}
 use Rattle.device.proofs.Flows.{follows_then, flow-follows}
 use Rattle.device.proofs.Plays.{plays-then, plays-through}
 use Rattle.paging.specs.Layout.{numbers}
@@ -16,22 +19,21 @@ use Rattle.paging.specs.Sectors.{root_known}
 use Rattle.paging.specs.Store.{Stored, open_flow, store_flow}
 use Rattle.paging.proofs.Played.{plan-plays, flow-follows-store, open-plays}
 use Rattle.pages.specs.declared.store.Store.{Store}
-use Rattle.pages.specs.declared.store.OpenError.{OpenError as StoreError}
 use Rattle.pages.specs.declared.store.OpenError.TheVariants as why
 use Rattle.pages.specs.Serving.{stored_of}
 use Rattle.pages.specs.Serving as serving
-use Rattle.pages.specs.Of.{label_told}
 use Rattle.model.specs.declared.Call.{Call as RustCall}
 use Rattle.model.specs.declared.Call.TheVariants as call
 use Rattle.model.specs.Of.{call_of}
 use Rattle.model.specs.Calls.{Call, Reply}
+use Rattle.model.specs.Calls as calls
 use Rattle.caching.specs.Frames.{fresh}
 use Rattle.caching.specs.Cache.{cache_flow}
 use Rattle.cache.specs.Serving.{cache_of}
 use Rattle.cache.specs.Opening.{store_below}
 use Rattle.calls_on_store.specs.Files.{built, FilesMem, up_flow, call_flow, pages_below, machine}
-use Rattle.calls_on_store.specs.Of.{OnStore, device_below, pages_mem, CacheGoes, open_fault, up_reads}
-use Rattle.calls_on_store.specs.declared.OpenError.TheVariants.{TooFewSectors, TooManySectors, TooFewWords}
+use Rattle.calls_on_store.specs.Of.{OnStore, kept, raised, device_below, pages_mem, CacheGoes, open_fault, up_reads}
+use Rattle.calls.specs.declared.OpenError.TheVariants.{TooFewSectors, TooManySectors, TooFewWords}
 
 module _ {D : Type 0} (steps : D → (c : Asked) → Told c → D → Type 0) (frames : ℕ) where
   abbrev dev : MutBor (Store D) → D
@@ -73,15 +75,9 @@ module _ {D : Type 0} (steps : D → (c : Asked) → Told c → D → Type 0) (f
 -- COMING UP
 -- the label tells whether the form is known
 module _ {D : Type 0} (steps : D → (c : Asked) → Told c → D → Type 0) where
-  pub up-runs : (s t : OnStore D) (known : Bool) (told label : List ℕ) → CacheGoes steps s Label (label_told known told) t → label ≡ cond known told blank_label → Runs (CacheGoes steps) up_flow s t (record { known = known; label = label })
-  up-runs s t true told label q e = (Some told, t, q, (λ x i. (refl, let j : told ≡ x = cc in rw (e, j) refl), λ i. absurd (never i)))
-    where
-      never : Some told ≡ None → ⊥
-      never i = let z : ◌≡◌ {A = ℕ} 0 1 = cc in omega arith
-  up-runs s t false told label q e = (None, t, q, (λ x i. absurd (never x i), λ i. (refl, rw e refl)))
-    where
-      never : (x : List ℕ) → None ≡ Some x → ⊥
-      never x i = let z : ◌≡◌ {A = ℕ} 0 1 = cc in omega arith
+  pub up-runs : (s t : OnStore D) (told : Option (List ℕ)) → CacheGoes steps s Label told t → Runs (CacheGoes steps) up_flow s t (kept told)
+  up-runs s t (Some l) q = (Some l, t, q, (λ x i. (refl, let j : l ≡ x = cc in ap (λ (l : List ℕ). kept (Some l)) (sym j)), λ i. absurd (let z : ◌≡◌ {A = Option (List ℕ)} (Some l) None = i in cc)))
+  up-runs s t None q = (None, t, q, (λ x i. absurd (let z : ◌≡◌ {A = Option (List ℕ)} None (Some x) = i in cc), λ i. (refl, refl)))
 
   -- it tells how many sectors it has read
   told-reads : (size n : ℕ) (d t : D) (x : Stored) → Runs steps (open_flow size) d t (x, n) → n ≡ up_reads size x.known
@@ -92,35 +88,40 @@ module _ {D : Type 0} (steps : D → (c : Asked) → Told c → D → Type 0) wh
       go false e = let (i, j) = f e in sym (ap (λ (y : Stored × ℕ). y.1) j) ∙ ap (λ (y : Stored × ℕ). up_reads size y.0.known) j
 
   -- the cache hands the label of the store on
-  known-below : (s t : OnStore D) (known : Bool) (told : List ℕ) → CacheGoes steps s Label (label_told known told) t → (stored_of (store_below s)).known ≡ known
+  known-below : (s t : OnStore D) (told : Option (List ℕ)) → CacheGoes steps s Label told t → (stored_of (store_below s)).known ≡ (kept told).known
   unfolding cache_flow store_flow
-  known-below s t known told (l, y, (e, i), (j, k)) = go (stored_of (store_below s)).known known (ap (λ x. x.0) i ∙ ap (λ x. x.0) k)
+  known-below s t told (l, y, (e, i), (j, k)) = go (stored_of (store_below s)).known told (ap (λ x. x.0) i ∙ ap (λ x. x.0) k)
     where
-      go : (a b : Bool) → cond a (Some (stored_of (store_below s)).label) None ≡ label_told b told → a ≡ b
-      go true true z = refl
-      go true false z = absurd (let z : ◌≡◌ {A = ℕ} 0 1 = cc in omega arith)
-      go false true z = absurd (let z : ◌≡◌ {A = ℕ} 0 1 = cc in omega arith)
-      go false false z = refl
+      go : (a : Bool) (told : Option (List ℕ)) → cond a (Some (stored_of (store_below s)).label) None ≡ told → a ≡ (kept told).known
+      go true told z = ap (λ (o : Option (List ℕ)). (kept o).known) z
+      go false told z = ap (λ (o : Option (List ℕ)). (kept o).known) z
 
-  pub up-told : (size n : ℕ) (d : D) (s t : OnStore D) (known : Bool) (told : List ℕ) → Runs steps (open_flow size) d (device_below s) (stored_of (store_below s), n) → CacheGoes steps s Label (label_told known told) t → n ≡ up_reads size known
-  up-told size n d s t known told q u = told-reads size n d (device_below s) (stored_of (store_below s)) q ∙ ap (up_reads size) (known-below s t known told u)
+  pub up-told : (size n : ℕ) (d : D) (s t : OnStore D) (told : Option (List ℕ)) → Runs steps (open_flow size) d (device_below s) (stored_of (store_below s), n) → CacheGoes steps s Label told t → n ≡ up_reads size (kept told).known
+  up-told size n d s t told q u = told-reads size n d (device_below s) (stored_of (store_below s)) q ∙ ap (up_reads size) (known-below s t told u)
 
--- nothing is at fault
-pub no-fault : (sectors lent words : ℕ) → 29 ≤ lent → serving.open_fault sectors words ≡ None → open_fault sectors lent words ≡ None
-no-fault sectors lent words l e = rw (le-ltb lent 29 l) (go (ltb sectors 8192) (ltb 1099511627776 sectors) (ltb words (2 * numbers sectors)) e)
+-- CALLS
+module _ {D : Type 0} (steps : D → (c : Asked) → Told c → D → Type 0) where
+  pub runs_sync : (s t : OnStore D) (o : Option (List ℕ)) (l : List ℕ) → o ≡ Some l → CacheGoes steps s (pages.Sync l) tt t → Runs (CacheGoes steps) (call_flow calls.Sync (kept o)) s t (calls.Done, kept o)
+  unfolding built
+  runs_sync s t o l e q = subst (λ o. Runs (CacheGoes steps) (call_flow calls.Sync (kept o)) s t (calls.Done, kept o)) (sym e) (taken (is _) refl (taken (is _) refl (tt, t, q, (refl, refl))))
+
+  pub runs_other : (s : OnStore D) (o : Option (List ℕ)) (l : List ℕ) (c : Call) → o ≡ Some l → built c ≡ false → Runs (CacheGoes steps) (call_flow c (kept o)) s s (calls.No 12, kept o)
+  runs_other s o l c e b = taken (is _) (ap (λ (o : Option (List ℕ)). (kept o).known) e) (left (is _) b (refl, refl))
+
+-- the file system's fault is the store's, where enough pages are lent
+pub fault : (sectors lent words : ℕ) → 29 ≤ lent → open_fault sectors lent words ≡ option_map raised (serving.open_fault sectors words)
+fault sectors lent words l = rw (le-ltb lent 29 l) (go (ltb sectors 8192) (ltb 1099511627776 sectors) (ltb words (2 * numbers sectors)))
   where
-    never : (x : StoreError) → ◌≡◌ {A = Option StoreError} (Some x) None → ⊥
-    never x i = let z : ◌≡◌ {A = ℕ} 0 1 = cc in omega arith
-
-    go : (a b c : Bool) → cond a (Some why.TooFewSectors) (cond b (Some why.TooManySectors) (cond c (Some why.TooFewWords) None)) ≡ None →
-        cond a (Some TooFewSectors) (cond b (Some TooManySectors) (cond c (Some TooFewWords) None)) ≡ None
-    go true b c i = absurd (never _ i)
-    go false true c i = absurd (never _ i)
-    go false false true i = absurd (never _ i)
-    go false false false i = refl
+    go : (a b c : Bool) →
+        cond a (Some TooFewSectors) (cond b (Some TooManySectors) (cond c (Some TooFewWords) None)) ≡
+        option_map raised (cond a (Some why.TooFewSectors) (cond b (Some why.TooManySectors) (cond c (Some why.TooFewWords) None)))
+    go true b c = refl
+    go false true c = refl
+    go false false true = refl
+    go false false false = refl
 
 -- what is no sync is not built
-pub not-built : (c : RustCall) → (c ≡ call.Sync → ⊥) → built (call_of c) ≡ false
+pub not-built : (c : RustCall (Bor (List ℕ))) → (c ≡ call.Sync → ⊥) → built (call_of c) ≡ false
 unfolding built
 not-built (call.Open w b p) e = refl
 not-built (call.Close h) e = refl
@@ -138,3 +139,8 @@ not-built (call.Join p q) e = refl
 not-built (call.MakeLink t p) e = refl
 not-built (call.ReadLink p) e = refl
 not-built call.Sync e = absurd (e refl)
+
+-- what was Ok before its fault was put in other words is Ok after
+pub ok_before : {T E : Type 0} (F : Type 0) (r : Result T E) (x : T) → MatchResult r (λ y. ◌≡◌ {A = Result T F} (Ok x) (Ok y)) (λ e. ⊥) → r ≡ Ok x
+ok_before F (Ok y) x h = let e : x ≡ y = cc in ap Ok (sym e)
+ok_before F (Err e) x h = absurd h

@@ -14,7 +14,7 @@ use Rattle.paging.specs.Judge as judge
 use Rattle.model.specs.Tree.{blank, swept, keep}
 use Rattle.model.specs.Calls.{Call, Open, Close, Read, Write, Resize, Stat, StatOpen, MakeFolder, Remove, RemoveFolder, NextName, Rename, Join, MakeLink, ReadLink, Sync, Reply, No, Done, State, fresh, does}
 use Rattle.model.specs.Answers.{Answers, Down, leaves, as-meant, not_yet}
-use Rattle.calls_on_store.specs.Promise.{files, Whole}
+use Rattle.calls.specs.Promise.{files, Whole}
 use Rattle.calls_on_store.specs.Files.{built, FilesMem, up_flow, files_layer, machine}
 use Rattle.calls_on_store.proofs.Wholly.{wholly}
 

@@ -13,7 +13,7 @@ use Rattle.paging.proofs.Store.{priced}
 use Rattle.caching.specs.Cache.{cache_layer}
 use Rattle.caching.proofs.Layers.{cache-kept}
 use Rattle.model.specs.Calls.{Call, Reply, State}
-use Rattle.calls_on_store.specs.Promise.{files, deepest, Whole}
+use Rattle.calls.specs.Promise.{files, deepest, Whole}
 
 module _ {can : Call → Bool} {l : Layer PageCall PageReply Call Reply} {opening : ℕ → ℕ} {price' : (size : ℕ) → State → Call → ℕ} {Off : (size : ℕ) → pages.State → State → Type 0} {On : (size : ℕ) → l.Mem → pages.State → State → Type 0}
     (layer : PricedLayer kept (files can) l opening price price' Off On)
