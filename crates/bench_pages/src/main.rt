@@ -4,9 +4,9 @@
 use anyhow::anyhow;
 use cache::cached::Cached;
 use device::Device;
-use device::memory::Memory;
-use pages::Pages;
+use device::memory::{Askings, Memory};
 use pages::store::Store;
+use pages::{Pages, Refused};
 use std::time::Instant;
 
 const PAGE_SECTORS: u64 = 8;
@@ -48,41 +48,36 @@ struct Load {
     group: u64,
 }
 
-// One put, and a sync where a group is full; false where there is no room.
-fn put_one<P: Pages>(pages: &mut P, load: Load, turn: u64) -> bool {
+// One put, and a sync where a group is full.
+fn put_one<P: Pages>(pages: &mut P, load: Load, turn: u64) -> Result<(), Refused> {
     let mut page = [7u8; 4096];
     stamp(&mut page, turn);
-    let done = pages.put(1 + turn % load.spread.max(1), &page);
+    pages.put(1 + turn % load.spread.max(1), &page)?;
     if turn % load.group.max(1) == load.group.saturating_sub(1) {
         pages.sync(&[1u8; 248]);
     }
-    done
+    Ok(())
 }
 
-// All puts, and a last sync; how many found no room.
-fn put_all<P: Pages>(pages: &mut P, load: Load) -> u64 {
-    let mut refused = 0u64;
+// All puts, and a last sync.
+fn put_all<P: Pages>(pages: &mut P, load: Load) -> Result<(), Refused> {
     for turn in 0..PUTS {
-        if !put_one(pages, load, turn) {
-            refused = refused.wrapping_add(1);
-        }
+        put_one(pages, load, turn)?;
     }
     pages.sync(&[1u8; 248]);
-    refused
+    Ok(())
 }
 
-fn report(
-    rt: &HostRuntime,
-    name: &str,
-    group: u64,
-    wrote: u64,
-    read: u64,
-    syncs: u64,
-) -> anyhow::Result<()> {
-    let beyond = wrote.saturating_sub(PAGE_SECTORS * PUTS);
-    let percent = wrote / (PAGE_SECTORS * PUTS / 100);
+fn report(rt: &HostRuntime, name: &str, group: u64, asked: Askings) -> anyhow::Result<()> {
+    let Askings {
+        reads,
+        writes,
+        syncs,
+    } = asked;
+    let beyond = writes.saturating_sub(PAGE_SECTORS * PUTS);
+    let percent = writes / (PAGE_SECTORS * PUTS / 100);
     println!(rt;
-        "{name}, a sync after {group}: {wrote} sectors written ({percent}% of the pages' own), {beyond} beyond them, {read} read, {syncs} device syncs"
+        "{name}, a sync after {group}: {writes} sectors written ({percent}% of the pages' own), {beyond} beyond them, {reads} read, {syncs} device syncs"
     )?;
     Ok(())
 }
@@ -90,20 +85,16 @@ fn report(
 fn puts(rt: &HostRuntime, name: &str, load: Load) -> anyhow::Result<()> {
     let mut words = vec![in rt.alloc(); 0u64; 2 * (SECTORS / PAGE_SECTORS) as usize]?;
     let mut store = Store::new(Memory::new(rt.alloc(), SECTORS)?, &mut words);
-    if store.open(SECTORS).is_err() {
-        return Err(anyhow!("the store did not come up"));
-    }
-    let opening = store.device().reads();
+    let opening = store
+        .open(SECTORS)
+        .map_err(|_| anyhow!("the store did not come up"))?;
     let start = Instant::now(rt)?;
-    let refused = put_all(&mut store, load);
+    put_all(&mut store, load).map_err(|_| anyhow!("no room"))?;
     let took = start.elapsed(rt)?;
-    if refused > 0 {
-        return Err(anyhow!("no room"));
-    }
-    let read = store.device().reads().saturating_sub(opening);
-    let (wrote, syncs) = (store.device().writes(), store.device().syncs());
-    report(rt, name, load.group, wrote, read, syncs)?;
+    let mut asked = store.with_device(|card| card.askings());
+    asked.reads = asked.reads.saturating_sub(opening);
     let group = load.group;
+    report(rt, name, group, asked)?;
     eprintln!(rt; "{name}, a sync after {group}: {took:?}")?;
     Ok(())
 }
@@ -114,20 +105,17 @@ fn changes(rt: &HostRuntime, frames: usize) -> anyhow::Result<()> {
     let mut lent = vec![in rt.alloc(); [0u8; 4096]; frames]?;
     let mut store = Store::new(Memory::new(rt.alloc(), SECTORS)?, &mut words);
     let mut cache = Cached::new(&mut store, 0, &mut lent);
-    if cache.open(SECTORS).is_err() {
-        return Err(anyhow!("the cache did not come up"));
-    }
+    let _ = cache
+        .open(SECTORS)
+        .map_err(|_| anyhow!("the cache did not come up"))?;
     let start = Instant::now(rt)?;
     let load = Load {
         spread: 100,
         group: PUTS,
     };
-    let refused = put_all(&mut cache, load);
+    put_all(&mut cache, load).map_err(|_| anyhow!("no room"))?;
     let took = start.elapsed(rt)?;
-    if refused > 0 {
-        return Err(anyhow!("no room"));
-    }
-    let wrote = store.device().writes();
+    let wrote = store.with_device(|card| card.writes());
     let pages = wrote / PAGE_SECTORS;
     println!(rt;
         "100 pages changed 100 times between two syncs, {frames} frames: {wrote} sectors written, as many as {pages} pages have"
@@ -140,11 +128,11 @@ fn up(rt: &HostRuntime, name: &str, sectors: u64) -> anyhow::Result<()> {
     let mut words = vec![in rt.alloc(); 0u64; (sectors / 4) as usize]?;
     let mut store = Store::new(Blank { reads: 0 }, &mut words);
     let start = Instant::now(rt)?;
-    let Ok(reads) = store.open(sectors) else {
-        return Err(anyhow!("the store did not come up"));
-    };
+    let reads = store
+        .open(sectors)
+        .map_err(|_| anyhow!("the store did not come up"))?;
     let took = start.elapsed(rt)?;
-    let asked = store.device().reads;
+    let asked = store.with_device(|card| card.reads);
     let most = 64 + sectors / 64;
     println!(rt; "coming up at {name}: {reads} sectors read, {asked} asked for, {most} allowed")?;
     eprintln!(rt; "coming up at {name}: {took:?}")?;
@@ -152,60 +140,17 @@ fn up(rt: &HostRuntime, name: &str, sectors: u64) -> anyhow::Result<()> {
 }
 
 fn run(rt: &HostRuntime) -> anyhow::Result<()> {
-    puts(
-        rt,
-        "new pages",
-        Load {
-            spread: 16000,
-            group: 1,
-        },
-    )?;
-    puts(
-        rt,
-        "new pages",
-        Load {
-            spread: 16000,
-            group: 16,
-        },
-    )?;
-    puts(
-        rt,
-        "new pages",
-        Load {
-            spread: 16000,
-            group: 256,
-        },
-    )?;
-    puts(
-        rt,
-        "100 pages rewritten",
-        Load {
-            spread: 100,
-            group: 1,
-        },
-    )?;
-    puts(
-        rt,
-        "100 pages rewritten",
-        Load {
-            spread: 100,
-            group: 16,
-        },
-    )?;
-    puts(
-        rt,
-        "100 pages rewritten",
-        Load {
-            spread: 100,
-            group: 256,
-        },
-    )?;
-    changes(rt, 0)?;
-    changes(rt, 35)?;
-    changes(rt, 100)?;
-    up(rt, "64 MiB", 131072)?;
-    up(rt, "1 GiB", 2097152)?;
-    up(rt, "16 GiB", 33554432)?;
+    for (name, spread) in [("new pages", 16000), ("100 pages rewritten", 100)] {
+        for group in [1, 16, 256] {
+            puts(rt, name, Load { spread, group })?;
+        }
+    }
+    for frames in [0, 35, 100] {
+        changes(rt, frames)?;
+    }
+    for (name, sectors) in [("64 MiB", 131072), ("1 GiB", 2097152), ("16 GiB", 33554432)] {
+        up(rt, name, sectors)?;
+    }
     Ok(())
 }
 

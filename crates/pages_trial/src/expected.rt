@@ -1,51 +1,58 @@
 // What the pages of a small card should be, each known by one byte: 0 for a blank one.
 pub const PAGES: usize = 1024;
 
+// The byte is the page, so 0 is a page too: the blank one.
+#[derive(Clone, Copy, Default)]
+pub struct Page {
+    pub now: u8,
+    pub volatile: bool,
+    pub synced: u8,
+}
+
 #[derive(Drop)]
 pub struct Expected {
-    pub now: [u8; PAGES],
-    pub volatile: [bool; PAGES],
-    pub synced: [u8; PAGES],
-    pub label: u8,
+    pub pages: [Page; PAGES],
+    // The one of the last sync.
+    pub label: Option<u8>,
 }
 
 impl Expected {
     pub fn blank() -> Expected {
         Expected {
-            now: [0; PAGES],
-            volatile: [false; PAGES],
-            synced: [0; PAGES],
-            label: 0,
+            pages: [Page::default(); PAGES],
+            label: None,
         }
     }
 
     pub fn put(&mut self, n: usize, kind: u8, volatile: bool) {
-        if n < PAGES {
-            self.now[n] = kind;
-            self.volatile[n] = volatile && kind != 0;
+        if let Some(page) = self.pages.get_mut(n) {
+            page.now = kind;
+            page.volatile = volatile && kind != 0;
         }
     }
 
     pub fn make_volatile(&mut self, n: usize) {
-        if n < PAGES {
-            self.volatile[n] = self.now[n] != 0;
+        if let Some(page) = self.pages.get_mut(n) {
+            page.volatile = page.now != 0;
         }
     }
 
     pub fn is_blank(&self, n: u64) -> bool {
-        n < PAGES as u64 && self.now[n as usize] == 0
+        self.pages.get(n as usize).is_some_and(|page| page.now == 0)
     }
 
     pub fn sync(&mut self, label: u8) {
-        for n in 0..PAGES {
-            self.synced[n] = if self.volatile[n] { 0 } else { self.now[n] };
+        for page in &mut self.pages {
+            page.synced = if page.volatile { 0 } else { page.now };
         }
-        self.label = label;
+        self.label = Some(label);
     }
 
     pub fn cut(&mut self) {
-        self.now = self.synced;
-        self.volatile = [false; PAGES];
+        for page in &mut self.pages {
+            page.now = page.synced;
+            page.volatile = false;
+        }
     }
 }
 

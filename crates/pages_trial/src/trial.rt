@@ -1,30 +1,21 @@
 // Pages on a device in memory, played against what they should be.
 use crate::expected::{Expected, PAGES, label_of, page_of};
-use crate::random::Random;
+use caching::How;
+use device::memory::Memory;
+use device::random::SplitMix64;
 use pages::Pages;
+use pages::store::OpenError;
 
-// Pages whose power can be cut.
+// Pages on a device in memory, whose power can be cut.
 pub trait Rehearsed: Pages {
-    // Comes up, anew after a cut; false where it does not.
-    fn come_up(&mut self) -> bool;
+    // Comes up, anew after a cut.
+    fn come_up(&mut self) -> Result<u64, OpenError>;
 
-    fn is_on(&mut self) -> bool;
-
-    // So many things more are answered by the device, and then the power fails.
-    fn fail_after(&mut self, askings: u64);
-
-    fn cut(&mut self, seed: u64);
+    fn with_card<R, F: FnOnce(&mut Memory) -> R>(&mut self, f: F) -> R
+        requires { F.IsAlwaysCallable f };
 }
 
-// How a page is put.
-#[derive(Clone, Copy)]
-enum Way {
-    Stays,
-    Through,
-    Volatile,
-}
-
-#[derive(Clone, Copy)]
+#[derive(Clone, Copy, Default)]
 pub struct Tally {
     pub calls: u64,
     pub cuts: u64,
@@ -37,7 +28,7 @@ pub struct Tally {
 pub struct Trial<'p, P> {
     pub pages: &'p mut P,
     pub expected: Expected,
-    pub random: Random,
+    pub random: SplitMix64,
     // The page numbers that are used.
     pub spread: u64,
     // The label of a sync that the power failed in.
@@ -52,7 +43,7 @@ impl<'p, P: Rehearsed> Trial<'p, P> {
         Trial {
             pages,
             expected: Expected::blank(),
-            random: Random(seed),
+            random: SplitMix64::new(seed),
             spread,
             unsure: None,
             tally,
@@ -61,9 +52,9 @@ impl<'p, P: Rehearsed> Trial<'p, P> {
 
     // The power fails after so many askings, at the latest after so many calls, and comes back; false where it held.
     pub fn live(&mut self, askings: u64, calls: u64) -> bool {
-        self.pages.fail_after(askings);
+        self.pages.with_card(|card| card.fail_after(askings));
         self.play(calls);
-        let failed = !self.pages.is_on();
+        let failed = !self.is_on();
         self.come_back();
         failed
     }
@@ -71,7 +62,7 @@ impl<'p, P: Rehearsed> Trial<'p, P> {
     // So many lives, each with a random number of askings.
     pub fn live_some(&mut self, lives: u64) {
         for _ in 0..lives {
-            let askings = self.random.next() % 900;
+            let askings = self.random.next_u64() % 900;
             let _ = self.live(askings, 400);
         }
     }
@@ -83,8 +74,12 @@ impl<'p, P: Rehearsed> Trial<'p, P> {
         }
     }
 
+    fn is_on(&mut self) -> bool {
+        self.pages.with_card(|card| card.is_on())
+    }
+
     fn count_wrong(&mut self, right: bool) {
-        if !right && self.pages.is_on() {
+        if !right && self.is_on() {
             self.tally.wrong = self.tally.wrong.wrapping_add(1);
         }
     }
@@ -92,41 +87,35 @@ impl<'p, P: Rehearsed> Trial<'p, P> {
     fn get(&mut self, n: usize) -> bool {
         let mut page = [0u8; 4096];
         self.pages.get(n as u64, &mut page);
-        if n < PAGES {
-            page == page_of(self.expected.now[n])
-        } else {
-            page == [0u8; 4096]
+        match self.expected.pages.get(n) {
+            Some(expected) => page == page_of(expected.now),
+            None => page == [0u8; 4096],
         }
+    }
+
+    fn label_is_right(&mut self) -> bool {
+        let expected = match self.expected.label {
+            Some(kind) => label_of(kind),
+            None => [0; 248],
+        };
+        self.pages.label().is_some_and(|label| label == expected)
     }
 
     // All pages and the label are as they should be.
     fn all_right(&mut self) -> bool {
-        let mut label = [0u8; 248];
-        if !self.pages.label(&mut label) {
-            return false;
-        }
-        if label != label_of(self.expected.label)
-            && (self.expected.label != 0 || label != [0u8; 248])
-        {
-            return false;
-        }
-        for n in 0..PAGES {
-            if !self.get(n) {
-                return false;
-            }
-        }
-        true
+        self.label_is_right() && (0..PAGES).all(|n| self.get(n))
     }
 
-    fn put(&mut self, n: usize, kind: u8, way: Way) {
+    fn put(&mut self, n: usize, kind: u8, how: How) {
         let page = page_of(kind);
-        let done = match way {
-            Way::Stays => self.pages.put(n as u64, &page),
-            Way::Through => self.pages.put_through(n as u64, &page),
-            Way::Volatile => self.pages.put_volatile(n as u64, &page),
-        };
+        let done = match how {
+            How::Lasting => self.pages.put(n as u64, &page),
+            How::Through => self.pages.put_through(n as u64, &page),
+            How::Volatile => self.pages.put_volatile(n as u64, &page),
+        }
+        .is_ok();
         if done {
-            self.expected.put(n, kind, matches!(way, Way::Volatile));
+            self.expected.put(n, kind, matches!(how, How::Volatile));
         } else if n < PAGES {
             self.tally.without_room = self.tally.without_room.wrapping_add(1);
         }
@@ -135,7 +124,7 @@ impl<'p, P: Rehearsed> Trial<'p, P> {
 
     fn sync(&mut self, label: u8) {
         self.pages.sync(&label_of(label));
-        if self.pages.is_on() {
+        if self.is_on() {
             self.expected.sync(label);
         } else {
             self.unsure = Some(label);
@@ -143,14 +132,14 @@ impl<'p, P: Rehearsed> Trial<'p, P> {
     }
 
     fn make_volatile(&mut self, n: usize) {
-        let done = self.pages.volatile(n as u64);
+        let done = self.pages.volatile(n as u64).is_ok();
         self.expected.make_volatile(n);
         self.count_wrong(done == (n < PAGES));
     }
 
     fn spare(&mut self, from: usize) {
         let found = self.pages.spare(from as u64);
-        let right = found > 0 && self.expected.is_blank(found);
+        let right = found.is_some_and(|n| n > 0 && self.expected.is_blank(n));
         self.count_wrong(right);
     }
 
@@ -158,26 +147,30 @@ impl<'p, P: Rehearsed> Trial<'p, P> {
     fn put_with_left(&mut self, n: usize, kind: u8) {
         let left = self.pages.left();
         let before = self.tally.without_room;
-        self.put(n, kind, Way::Stays);
+        self.put(n, kind, How::Lasting);
         let right = left == 0 || self.tally.without_room == before;
         self.count_wrong(right);
     }
 
     // One call, by the next random numbers; the power may fail in it.
     fn call(&mut self) {
-        let n = (self.random.next() % self.spread.max(1)) as usize;
-        let full = (self.random.next() % 255) as u8;
-        let kind = if self.random.next() % 4 == 0 { 0 } else { full };
+        let n = (self.random.next_u64() % self.spread.max(1)) as usize;
+        let full = (self.random.next_u64() % 255) as u8;
+        let kind = if self.random.next_u64() % 4 == 0 {
+            0
+        } else {
+            full
+        };
         self.tally.calls = self.tally.calls.wrapping_add(1);
-        match self.random.next() % 12 {
+        match self.random.next_u64() % 12 {
             0 | 1 => {
                 let right = self.get(n);
                 self.count_wrong(right);
             }
-            2..=4 => self.put(n, kind, Way::Stays),
-            5 => self.put(n, kind, Way::Through),
+            2..=4 => self.put(n, kind, How::Lasting),
+            5 => self.put(n, kind, How::Through),
             6 => self.put_with_left(n, kind),
-            7 => self.put(n, kind, Way::Volatile),
+            7 => self.put(n, kind, How::Volatile),
             8 => self.make_volatile(n),
             9 | 10 => self.spare(n),
             _ => self.sync(full),
@@ -188,7 +181,7 @@ impl<'p, P: Rehearsed> Trial<'p, P> {
     fn play(&mut self, calls: u64) {
         for _ in 0..calls {
             self.call();
-            if !self.pages.is_on() {
+            if !self.is_on() {
                 return;
             }
         }
@@ -197,7 +190,7 @@ impl<'p, P: Rehearsed> Trial<'p, P> {
     // So many pages that are not blank, one after the other, and a sync.
     pub fn fill(&mut self, count: usize) {
         for n in 0..count {
-            self.put(n, 1 + (n % 200) as u8, Way::Stays);
+            self.put(n, 1 + (n % 200) as u8, How::Lasting);
         }
         self.sync(7);
     }
@@ -205,29 +198,26 @@ impl<'p, P: Rehearsed> Trial<'p, P> {
     // The power comes back; a sync that it failed in was done, or never was.
     fn come_back(&mut self) {
         self.tally.cuts = self.tally.cuts.wrapping_add(1);
-        let seed = self.random.next();
-        self.pages.cut(seed);
-        let up = self.pages.come_up();
-        let Some(label) = self.unsure else {
+        let seed = self.random.next_u64();
+        self.pages.with_card(|card| card.cut(seed));
+        let up = self.pages.come_up().is_ok();
+        let Some(label) = self.unsure.take() else {
             self.expected.cut();
             let right = up && self.all_right();
             self.count_wrong(right);
             return;
         };
-        self.unsure = None;
         self.tally.cuts_in_syncs = self.tally.cuts_in_syncs.wrapping_add(1);
         self.come_back_in_sync(up, label);
     }
 
     fn come_back_in_sync(&mut self, up: bool, label: u8) {
-        let now = self.expected.now;
-        let volatile = self.expected.volatile;
+        let before = self.expected.pages;
         self.expected.cut();
         if up && self.all_right() {
             return;
         }
-        self.expected.now = now;
-        self.expected.volatile = volatile;
+        self.expected.pages = before;
         self.expected.sync(label);
         self.expected.cut();
         let right = up && self.all_right();
@@ -236,9 +226,9 @@ impl<'p, P: Rehearsed> Trial<'p, P> {
 
     // The power fails, while it comes up, after so many askings, and comes back; false where it was up by then.
     fn fail_coming_up(&mut self, askings: u64) -> bool {
-        self.pages.fail_after(askings);
+        self.pages.with_card(|card| card.fail_after(askings));
         let _ = self.pages.come_up();
-        let failed = !self.pages.is_on();
+        let failed = !self.is_on();
         self.come_back();
         failed
     }

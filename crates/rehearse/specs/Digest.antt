@@ -1,6 +1,6 @@
 -- FNV-1a with 64 bits.
 -- Assumes nothing.
-use Rattle.std.specs.Prelude.{ℕ, ◌*◌, ◌%◌, ◌^◌, List, [], ◌∷◌, bit_xor}
+use Rattle.std.specs.Prelude.{ℕ, ◌*◌, ◌%◌, ◌^◌, List, fold, bit_xor}
 
 -- the digest of no bytes
 abbrev pub offset_basis : ℕ
@@ -12,5 +12,4 @@ stepped h b = (bit_xor h b * 0x0000_0100_0000_01B3) % 2 ^ 64
 
 -- the bytes of a list after those before, the first one first
 abbrev pub digested : ℕ → List ℕ → ℕ
-digested h [] = h
-digested h (b ∷ bs) = digested (stepped h b) bs
+digested h bs = fold stepped h bs

@@ -1,12 +1,14 @@
 -- The lines of a script.
 -- Assumes nothing.
-use Rattle.std.specs.Prelude.{ℕ, cond, List, [], ◌∷◌, ◌==◌}
+use Rattle.std.specs.Prelude.{ℕ, Bool, List, ◌==◌}
+use Rattle.std.specs.List.{before_first, after_first}
 
--- a text up to its first newline (10), and what comes after that
+abbrev pub is_newline : ℕ → Bool
+is_newline b = b == 10
+
+-- a text up to its first newline, and what comes after that
 abbrev pub line_of : List ℕ → List ℕ
-line_of [] = []
-line_of (b ∷ bs) = cond (b == 10) [] (b ∷ line_of bs)
+line_of text = before_first is_newline text
 
 abbrev pub after_line : List ℕ → List ℕ
-after_line [] = []
-after_line (b ∷ bs) = cond (b == 10) bs (after_line bs)
+after_line text = after_first is_newline text

@@ -17,17 +17,6 @@ fn step(value: u64, byte: u8) -> u64
     (value ^ u64::from(byte)).wrapping_mul(PRIME)
 }
 
-// The digest of more bytes, from the one of those before.
-fn digest_on(from: u64, bytes: &[u8]) -> u64
-    ensures { result ≡ digested from bytes.now }
-{
-    let mut value = from;
-    for byte in bytes {
-        value = step(value, *byte);
-    }
-    value
-}
-
 impl Digest {
     // Of no bytes.
     pub fn new() -> Digest
@@ -42,7 +31,9 @@ impl Digest {
     pub fn add(&mut self, bytes: &[u8])
         ensures { self.new.value ≡ digested self.old.value bytes.now }
     {
-        self.value = digest_on(self.value, bytes);
+        self.value = bytes
+            .iter()
+            .fold(self.value, |value, byte| step(value, *byte));
     }
 
     pub fn value(self) -> u64

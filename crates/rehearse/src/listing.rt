@@ -1,9 +1,8 @@
 // What is told of many nodes at once: the names of a folder, and the whole tree. Both go by the calls of the file system.
+use crate::desk::{Desk, Files, Untold, shown};
 use crate::digest::Digest;
-use crate::watched::{Watch, Watched};
-use calls_on_store::FileSystem;
-use lines::{Notation, Request};
-use model::{Call, Kind, Refusal, Reply, Way};
+use lines::Notation;
+use model::{Call, Kind, Reply};
 use std::alloc::{AllocError, Global};
 
 // What closes a list: it is no name.
@@ -19,73 +18,7 @@ const MOST: u64 = 65536;
 // So many reads come to the end of any file, which has at most 2^32 bytes.
 const PARTS: u64 = 65537;
 
-// Why there is nothing to show: the text of the reply that says so.
-type OrWhy<T> = Result<T, String>;
-
-// Makes a call that owns its bytes.
-fn make<'o>(
-    files: &mut FileSystem<Watched>,
-    request: &Request,
-    out: &'o mut [u8; 65536],
-) -> Reply<'o> {
-    match request.as_call() {
-        Some(call) => files.call(call, out),
-        None => Reply::Done,
-    }
-}
-
-// What comes next in a folder.
-#[derive(Drop)]
-enum Next {
-    Name(Vec<u8>),
-    End,
-    No(String),
-}
-
-fn next_name(
-    heap: Global,
-    files: &mut FileSystem<Watched>,
-    handle: u64,
-    after: &[u8],
-    out: &mut [u8; 65536],
-) -> Result<Next, AllocError> {
-    match files.call(Call::NextName { handle, after }, out) {
-        Reply::Named(name) => Ok(Next::Name(name.to_vec(heap)?)),
-        Reply::No(Refusal::NotFound) => Ok(Next::End),
-        other => Ok(Next::No(lines::print_reply(heap, other, Notation::Hex)?)),
-    }
-}
-
-fn last(names: &Vec<Vec<u8>>) -> &[u8] {
-    match names.last() {
-        Some(name) => name.as_slice(),
-        None => b"",
-    }
-}
-
-// The names of an open folder, one call for each; without power, those before it failed.
-fn names(
-    heap: Global,
-    files: &mut FileSystem<Watched>,
-    watch: &Watch,
-    handle: u64,
-    out: &mut [u8; 65536],
-) -> Result<OrWhy<Vec<Vec<u8>>>, AllocError> {
-    let mut names: Vec<Vec<u8>> = Vec::new(heap);
-    for _ in 0..u64::MAX {
-        match next_name(heap, files, handle, last(&names), out)? {
-            Next::Name(name) => names.push(name)?,
-            Next::End => break,
-            Next::No(why) => return Ok(Err(why)),
-        }
-        if !watch.is_on() {
-            break;
-        }
-    }
-    Ok(Ok(names))
-}
-
-fn shown(heap: Global, path: &[u8]) -> Result<String, AllocError> {
+fn path_text(heap: Global, path: &[u8]) -> Result<String, AllocError> {
     lines::print_reply(heap, Reply::Named(path), Notation::Path)
 }
 
@@ -94,117 +27,9 @@ fn push_line(text: &mut String, line: &str) -> Result<(), AllocError> {
     text.push('\n')
 }
 
-// The names of an open folder, a line for each, and what closes them.
-pub fn list_text(
-    heap: Global,
-    files: &mut FileSystem<Watched>,
-    watch: &Watch,
-    handle: u64,
-    out: &mut [u8; 65536],
-) -> Result<String, AllocError> {
-    let names = match names(heap, files, watch, handle, out)? {
-        Ok(names) => names,
-        Err(why) => return Ok(why),
-    };
-    let mut text = String::new(heap);
-    for name in names.iter() {
-        let name = shown(heap, name)?;
-        push_line(&mut text, name.as_str())?;
-    }
-    text.push_str(END)?;
-    Ok(text)
-}
-
-// Opens what has a path, to read.
-fn open(
-    heap: Global,
-    files: &mut FileSystem<Watched>,
-    path: &[u8],
-    out: &mut [u8; 65536],
-) -> Result<OrWhy<u64>, AllocError> {
-    match files.call(
-        Call::Open {
-            way: Way::Old,
-            write: false,
-            path,
-        },
-        out,
-    ) {
-        Reply::Opened(handle) => Ok(Ok(handle)),
-        other => Ok(Err(lines::print_reply(heap, other, Notation::Hex)?)),
-    }
-}
-
-fn close(files: &mut FileSystem<Watched>, handle: u64, out: &mut [u8; 65536]) -> bool {
-    matches!(make(files, &Request::Close { handle }, out), Reply::Done)
-}
-
 fn digest_text(heap: Global, digest: Digest) -> Result<String, AllocError> {
     let value = digest.value();
     format!(in heap; "{value:016x}")
-}
-
-// The digest of the bytes of an open file.
-fn read_all(
-    heap: Global,
-    files: &mut FileSystem<Watched>,
-    watch: &Watch,
-    handle: u64,
-    out: &mut [u8; 65536],
-) -> Result<String, AllocError> {
-    let mut digest = Digest::new();
-    for i in 0..PARTS {
-        let from = i * MOST;
-        let part = match make(
-            files,
-            &Request::Read {
-                handle,
-                from,
-                most: MOST,
-            },
-            out,
-        ) {
-            Reply::Bytes(part) => part,
-            other => return lines::print_reply(heap, other, Notation::Hex),
-        };
-        digest.add(part);
-        if (part.len() as u64) < MOST || !watch.is_on() {
-            break;
-        }
-    }
-    digest_text(heap, digest)
-}
-
-fn file_text(
-    heap: Global,
-    files: &mut FileSystem<Watched>,
-    watch: &Watch,
-    path: &[u8],
-    out: &mut [u8; 65536],
-) -> Result<String, AllocError> {
-    let handle = match open(heap, files, path, out)? {
-        Ok(handle) => handle,
-        Err(why) => return Ok(why),
-    };
-    let text = read_all(heap, files, watch, handle, out)?;
-    close(files, handle, out);
-    Ok(text)
-}
-
-fn link_text(
-    heap: Global,
-    files: &mut FileSystem<Watched>,
-    path: &[u8],
-    out: &mut [u8; 65536],
-) -> Result<String, AllocError> {
-    match files.call(Call::ReadLink { path }, out) {
-        Reply::Bytes(to) => {
-            let mut digest = Digest::new();
-            digest.add(to);
-            digest_text(heap, digest)
-        }
-        other => lines::print_reply(heap, other, Notation::Hex),
-    }
 }
 
 // The path of a name in a folder.
@@ -218,87 +43,109 @@ fn child(heap: Global, folder: &[u8], name: &[u8]) -> Result<Vec<u8>, AllocError
     Ok(path)
 }
 
-// A folder has no digest; the paths in it are still to be shown, the last one first.
-fn folder_text(
-    heap: Global,
-    files: &mut FileSystem<Watched>,
-    watch: &Watch,
-    path: &[u8],
-    left: &mut Vec<Vec<u8>>,
-    out: &mut [u8; 65536],
-) -> Result<String, AllocError> {
-    let handle = match open(heap, files, path, out)? {
-        Ok(handle) => handle,
-        Err(why) => return Ok(why),
-    };
-    let names = names(heap, files, watch, handle, out)?;
-    close(files, handle, out);
-    let names = match names {
-        Ok(names) => names,
-        Err(why) => return Ok(why),
-    };
-    for name in names.iter().rev() {
-        left.push(child(heap, path, name)?)?;
-    }
-    String::from_str(heap, "-")
-}
-
-// What is in a node: the digest of its bytes, or why it is not told. What a folder has is still to be shown.
-fn inside_text(
-    heap: Global,
-    files: &mut FileSystem<Watched>,
-    watch: &Watch,
-    kind: Kind,
-    path: &[u8],
-    left: &mut Vec<Vec<u8>>,
-    out: &mut [u8; 65536],
-) -> Result<String, AllocError> {
-    match kind {
-        Kind::File => file_text(heap, files, watch, path, out),
-        Kind::Folder => folder_text(heap, files, watch, path, left, out),
-        Kind::Link => link_text(heap, files, path, out),
-    }
-}
-
-// A path: what stat tells of it, what is in it, and the path. Or why it is not told.
-fn node_text(
-    heap: Global,
-    files: &mut FileSystem<Watched>,
-    watch: &Watch,
-    path: &[u8],
-    left: &mut Vec<Vec<u8>>,
-    out: &mut [u8; 65536],
-) -> Result<String, AllocError> {
-    let reply = files.call(Call::Stat { path }, out);
-    let told = lines::print_reply(heap, reply, Notation::Hex)?;
-    let at = shown(heap, path)?;
-    let Reply::Told(stat) = reply else {
-        return format!(in heap; "{told} {at}");
-    };
-    let inside = inside_text(heap, files, watch, stat.kind, path, left, out)?;
-    format!(in heap; "{told} {inside} {at}")
-}
-
-// Every path, a line for each, a folder before what is in it and names in their order; and what closes them.
-pub fn tree_text(
-    heap: Global,
-    files: &mut FileSystem<Watched>,
-    watch: &Watch,
-    out: &mut [u8; 65536],
-) -> Result<String, AllocError> {
-    let mut text = String::new(heap);
-    let mut left: Vec<Vec<u8>> = Vec::new(heap);
-    left.push(child(heap, TOP, b"")?)?;
-    for _ in 0..u64::MAX {
-        let Some(path) = left.pop() else {
-            break;
-        };
-        let line = node_text(heap, files, watch, &path, &mut left, out)?;
-        push_line(&mut text, line.as_str())?;
-        if !watch.is_on() {
-            break;
+impl<'d, F: Files> Desk<'d, F> {
+    // The names of an open folder, one call for each; without power, those before it failed.
+    fn names(&mut self, handle: u64) -> Result<Vec<Vec<u8>>, Untold> {
+        let mut names: Vec<Vec<u8>> = Vec::new(self.heap);
+        for _ in 0..u64::MAX {
+            let last = names.last().map_or(b"".as_slice(), |name| name.as_slice());
+            let Some(name) = self.next_name(handle, last)? else {
+                break;
+            };
+            names.push(name)?;
+            if !self.watch.is_on() {
+                break;
+            }
         }
+        Ok(names)
     }
-    text.push_str(END)?;
-    Ok(text)
+
+    fn names_text(&mut self, handle: u64) -> Result<String, Untold> {
+        let names = self.names(handle)?;
+        let mut text = String::new(self.heap);
+        for name in &names {
+            let name = path_text(self.heap, name)?;
+            push_line(&mut text, name.as_str())?;
+        }
+        text.push_str(END)?;
+        Ok(text)
+    }
+
+    // The names of an open folder, a line for each, and what closes them.
+    pub fn list_text(&mut self, handle: u64) -> Result<String, AllocError> {
+        shown(self.names_text(handle))
+    }
+
+    // The digest of the bytes of an open file.
+    fn read_all(&mut self, handle: u64) -> Result<Digest, Untold> {
+        let mut digest = Digest::new();
+        for i in 0..PARTS {
+            let part = self.read(handle, i * MOST, MOST)?;
+            let is_last = (part.len() as u64) < MOST;
+            digest.add(part);
+            if is_last || !self.watch.is_on() {
+                break;
+            }
+        }
+        Ok(digest)
+    }
+
+    fn file_text(&mut self, path: &[u8]) -> Result<String, Untold> {
+        let handle = self.open(path)?;
+        let digest = self.read_all(handle);
+        self.close(handle);
+        Ok(digest_text(self.heap, digest?)?)
+    }
+
+    fn link_text(&mut self, path: &[u8]) -> Result<String, Untold> {
+        let mut digest = Digest::new();
+        digest.add(self.read_link(path)?);
+        Ok(digest_text(self.heap, digest)?)
+    }
+
+    // A folder has no digest; the paths in it are still to be shown, the last one first.
+    fn folder_text(&mut self, path: &[u8], left: &mut Vec<Vec<u8>>) -> Result<String, Untold> {
+        let handle = self.open(path)?;
+        let names = self.names(handle);
+        self.close(handle);
+        for name in names?.iter().rev() {
+            left.push(child(self.heap, path, name)?)?;
+        }
+        Ok(String::from_str(self.heap, "-")?)
+    }
+
+    // A path: what stat tells of it, what is in it, and the path. Or why it is not told.
+    fn node_text(&mut self, path: &[u8], left: &mut Vec<Vec<u8>>) -> Result<String, AllocError> {
+        let heap = self.heap;
+        let reply = self.call(Call::Stat { path });
+        let told = lines::print_reply(heap, reply, Notation::Hex)?;
+        let at = path_text(heap, path)?;
+        let Reply::Told(stat) = reply else {
+            return format!(in heap; "{told} {at}");
+        };
+        let inside = shown(match stat.kind {
+            Kind::File => self.file_text(path),
+            Kind::Folder => self.folder_text(path, left),
+            Kind::Link => self.link_text(path),
+        })?;
+        format!(in heap; "{told} {inside} {at}")
+    }
+
+    // Every path, a line for each, a folder before what is in it and names in their order; and what closes them.
+    pub fn tree_text(&mut self) -> Result<String, AllocError> {
+        let mut text = String::new(self.heap);
+        let mut left: Vec<Vec<u8>> = vec![in self.heap; child(self.heap, TOP, b"")?]?;
+        for _ in 0..u64::MAX {
+            let Some(path) = left.pop() else {
+                break;
+            };
+            let line = self.node_text(&path, &mut left)?;
+            push_line(&mut text, line.as_str())?;
+            if !self.watch.is_on() {
+                break;
+            }
+        }
+        text.push_str(END)?;
+        Ok(text)
+    }
 }

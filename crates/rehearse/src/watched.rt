@@ -1,30 +1,15 @@
 // A device in memory that can be asked after, and told to fail, while a file system has it.
 use device::Device;
-use device::memory::Memory;
+use device::memory::{Askings, Memory};
 use std::cell::Cell;
 use std::rc::Rc;
 
-// How often a device was asked.
-#[derive(Clone, Copy)]
-pub struct Askings {
-    pub reads: u64,
-    pub writes: u64,
-    pub syncs: u64,
-}
-
-pub const NO_ASKINGS: Askings = Askings {
-    reads: 0,
-    writes: 0,
-    syncs: 0,
-};
-
-impl Askings {
-    pub fn since(self, before: Askings) -> Askings {
-        Askings {
-            reads: self.reads.saturating_sub(before.reads),
-            writes: self.writes.saturating_sub(before.writes),
-            syncs: self.syncs.saturating_sub(before.syncs),
-        }
+// What was asked between two counts.
+pub fn since(before: Askings, now: Askings) -> Askings {
+    Askings {
+        reads: now.reads.saturating_sub(before.reads),
+        writes: now.writes.saturating_sub(before.writes),
+        syncs: now.syncs.saturating_sub(before.syncs),
     }
 }
 
@@ -40,7 +25,7 @@ impl Watch {
     pub fn new() -> Watch {
         Watch {
             is_on: Cell::new(true),
-            askings: Cell::new(NO_ASKINGS),
+            askings: Cell::new(Askings::default()),
             fail_after: Cell::new(None),
         }
     }
@@ -78,19 +63,14 @@ impl Watched {
     }
 
     fn obey(&mut self) {
-        if let Some(askings) = self.watch.fail_after.get() {
+        if let Some(askings) = self.watch.fail_after.take() {
             self.memory.fail_after(askings);
-            self.watch.fail_after.set(None);
         }
     }
 
     fn note(&self) {
         self.watch.is_on.set(self.memory.is_on());
-        self.watch.askings.set(Askings {
-            reads: self.memory.reads(),
-            writes: self.memory.writes(),
-            syncs: self.memory.syncs(),
-        });
+        self.watch.askings.set(self.memory.askings());
     }
 }
 

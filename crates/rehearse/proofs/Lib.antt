@@ -1,2 +1,0 @@
-mod Digests
-mod Texts
