@@ -121,8 +121,11 @@ unfolding bits_to
 bits_below zero f = lit< tt
 bits_below (suc n) f = let a = one-le (f 0) in let b = bits_below n (λ i. f (suc i)) in let c = pow-add 2 1 n in let e : 1 + n ≡ suc n = omega arith in let d = ap (λ (k : ℕ). 2 ^ k) e in omega arith
 
-pub bits_small : (n v : ℕ) (f : ℕ → Bool) → n < 8 → v ≡ bits_to n f → v < 128
-bits_small n v f l e = let a = bits_below n f in elim (cases_eq n 7) [ inl z ↦ (let b = ap (λ (k : ℕ). 2 ^ k) z in omega arith) | inr z ↦ (let b = pow_below n 7 (omega arith) in omega arith) ]
+pub bits_small : (n v : ℕ) (f : ℕ → Bool) → n ≤ 8 → v ≡ bits_to n f → v < 256
+bits_small n v f l e = let a = bits_below n f in elim (cases_eq n 8) [ inl z ↦ (let b = ap (λ (k : ℕ). 2 ^ k) z in omega arith) | inr z ↦ (let b = pow_below n 8 (omega arith) in omega arith) ]
+
+pub bits_short : (n v : ℕ) (f : ℕ → Bool) → n < 8 → v ≡ bits_to n f → v < 128
+bits_short n v f l e = let a = bits_below n f in elim (cases_eq n 7) [ inl z ↦ (let b = ap (λ (k : ℕ). 2 ^ k) z in omega arith) | inr z ↦ (let b = pow_below n 7 (omega arith) in omega arith) ]
 
 -- what `to_le_bytes` gives
 pub le_is : (v : ℕ) → v % 256 ∷ (v / 256 % 256 ∷ (v / 65536 % 256 ∷ (v / 16777216 % 256 ∷ (v / 4294967296 % 256 ∷ (v / 1099511627776 % 256 ∷ (v / 281474976710656 % 256 ∷ (v / 72057594037927936 % 256 ∷ []))))))) ≡ bytes_le 8 v
@@ -222,5 +225,5 @@ bits-down f zero i v a e = e ∙ (bits-ext i (λ k. f (0 + k)) f (λ k. let z : 
 bits-down f (suc n) i v a e =
     let b = bits-ext i (λ k. f (suc n + k)) (λ k. f (n + suc k)) (λ k. let z : suc n + k ≡ n + suc k = omega arith in ap f z) in
     let d : one (f n) ≡ one (f (n + 0)) = let z : n ≡ n + 0 = omega arith in ap (λ k. one (f k)) z in
-    let l = bits_small i v (λ k. f (suc n + k)) (omega arith) e in
+    let l = bits_short i v (λ k. f (suc n + k)) (omega arith) e in
     bits-down f n (suc i) (bit_in f v n) (omega arith) (bit-in f v n l ∙ (λ j. d j + 2 * (e ∙ b) j))

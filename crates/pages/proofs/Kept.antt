@@ -1,12 +1,14 @@
 -- What always holds of the memory is kept by each of its steps.
 -- Assumes nothing.
-use Rattle.std.proofs.Common.{◌≡◌, ℕ, zero, suc, ◌+◌, ◌-◌, ◌/◌, ◌<◌, ◌≤◌, Bool, true, false, cond, not, ◌&&◌, ◌||◌, T, eqb, leb, ◌⊎◌, List, sym, refl, ap, ◌∙◌, subst, inl, inr, add-one, arith}
+use Rattle.std.proofs.Common.{◌≡◌, ℕ, zero, suc, ◌+◌, ◌-◌, ◌*◌, ◌/◌, ◌<◌, ◌≤◌, Bool, true, false, cond, not, ◌&&◌, ◌||◌, T, eqb, leb, ◌⊎◌, List, get_or, replicate, sym, refl, ap, ◌∙◌, subst, inl, inr, add-one, arith}
 use mathlib.Core.Path.{fun_ext}
+use lib.ListN.{get_or-replicate, length-replicate}
+use Rattle.std.proofs.lemmas.List.{get_or_past}
 use mir.Val.{bool_byte}
-use Rattle.std.proofs.lemmas.Bool.{eq-eqb, ne_eqb, lt-ltb, le-ltb, cond-true, cond-false}
+use Rattle.std.proofs.lemmas.Bool.{cases_lt, eq-eqb, ne_eqb, lt-ltb, le-ltb, cond-true, cond-false}
 use Rattle.paging.specs.Layout.{one, numbers, rooms, inner, last_node, child, parent}
 use Rattle.paging.specs.Memory.{Mem, at, at_place, vacant, counts, with_sel, with_dirty, with_now, with_old, with_busy, with_held, with_next, freed, taken, placed, mark, durable, settled, settled_at, settled_from, cleaned, cleaned_at, cleaned_children, cleaned_below, bare, selected, took_bit, took_bits, clipped, took_place, took_places}
-use Rattle.pages.specs.Words.{Places, Inside}
+use Rattle.pages.specs.Words.{place, flag, ram, mem_of, Places, Inside}
 use Rattle.pages.specs.declared.flags.Flag.{Flag}
 use Rattle.pages.specs.declared.flags.Flag.TheVariants.{Volatile, Busy, Held, Dirty, Slot}
 use Rattle.pages.specs.declared.flags.Version.{Version}
@@ -265,6 +267,24 @@ below_none m d k o = record { is = go d o; size = refl }
     go (suc d) (inr l) = rw (le-ltb k (inner m.words.card.sectors) l)
 
 -- BEFORE ANYTHING WAS READ
+zero-at : (n k : ℕ) → ◌≡◌ {A = ℕ} (get_or (replicate n 0) k 0) 0
+zero-at n k = elim (cases_lt k n) [ inl l ↦ get_or-replicate n k 0 0 l | inr l ↦ get_or_past (replicate n 0) k 0 (rw (length-replicate {A = ℕ} n 0) l) ]
+
+pub bare-seen : (size n : ℕ) → mem_of (ram size (replicate n 0) (rooms size) (rooms size)) ≡ bare size
+bare-seen size n =
+    λ j. record {
+      size = size;
+      sel = fun_ext (λ k. ap (flag 39) (zero-at n (2 * k + 1))) j;
+      dirty = fun_ext (λ k. ap (flag 40) (zero-at n (2 * k))) j;
+      now = fun_ext (λ k. ap place (zero-at n (2 * k))) j;
+      old = fun_ext (λ k. ap place (zero-at n (2 * k + 1))) j;
+      vol = fun_ext (λ k. ap (flag 38) (zero-at n (2 * k))) j;
+      busy = fun_ext (λ k. ap (flag 39) (zero-at n (2 * k))) j;
+      held = fun_ext (λ k. ap (flag 38) (zero-at n (2 * k + 1))) j;
+      left = rooms size;
+      next = rooms size;
+    }
+
 pub bare-good : (s : Mem) (size : ℕ) → s ≡ bare size → Places s × Inside s
 bare-good s size e =
     let p : Places (bare size) = ((λ n. omega arith), (λ n. omega arith), sym (count-all (rooms size))) in

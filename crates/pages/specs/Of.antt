@@ -1,6 +1,6 @@
 -- What the store's values are to its machine.
 -- Assumes nothing.
-use Rattle.std.specs.Prelude.{◌≡◌, ℕ, ◌<◌, ◌≤◌, Some, None, Option}
+use Rattle.std.specs.Prelude.{◌≡◌, ℕ, ◌<◌, ◌≤◌, max, length, Some, None, Option}
 use Rattle.paging.specs.Layout.{numbers, inner, last_node, rooms}
 use Rattle.paging.specs.Memory.{Mem}
 use Rattle.pages.specs.declared.flags.Flag.{Flag}
@@ -20,6 +20,10 @@ ram_of m = ram m.words.card.sectors m.words.cells.now m.left m.next
 
 abbrev pub seen : Memory → Mem
 seen m = mem_of (ram_of m)
+
+-- how many words are lent: they are in use, or idle until there first is a card
+abbrev pub lent_to : Words → ℕ
+lent_to w = max (length w.cells.now) (length w.idle.now)
 
 -- the words, where so many are left and such a number comes next
 abbrev pub view : Words → ℕ → ℕ → Mem

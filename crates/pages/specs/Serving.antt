@@ -1,6 +1,6 @@
 -- What the store is to its machine, and when it comes up.
 -- Assumes nothing.
-use Rattle.std.specs.Prelude.{◌≡◌, ℕ, ◌*◌, true, cond, length, Some, None, Ok, Err, List, Option, Result, nat_lt}
+use Rattle.std.specs.Prelude.{◌≡◌, ℕ, ◌*◌, true, cond, Some, None, Ok, Err, List, Option, Result, nat_lt}
 use Rattle.device.specs.Flow.{Runs}
 use Rattle.device.specs.Plays.{Asked, Told}
 use Rattle.paging.specs.Layout.{numbers}
@@ -9,7 +9,7 @@ use Rattle.paging.specs.Store.{Stored, shut, open_flow}
 use Rattle.pages.specs.declared.store.Store.{Store}
 use Rattle.pages.specs.declared.store.OpenError.{OpenError}
 use Rattle.pages.specs.declared.store.OpenError.TheVariants.{TooFewSectors, TooManySectors, TooFewWords}
-use Rattle.pages.specs.Of.{seen}
+use Rattle.pages.specs.Of.{lent_to, seen}
 
 -- up, with a label, or not
 abbrev pub stored : Option (List ℕ) → Mem → Stored
@@ -33,7 +33,7 @@ open_fault sectors words =
     (cond (nat_lt words (2 * numbers sectors)) (Some TooFewWords) None))
 
 abbrev pub words_of : {D : Type 0} → Store D → ℕ
-words_of s = length s.memory.words.cells.now
+words_of s = lent_to s.memory.words
 
 -- It comes up as its flow does, exactly where nothing is at fault; else nothing was asked of the device, and it is shut.
 abbrev pub ComesUp : {D : Type 0} → (D → (c : Asked) → Told c → D → Type 0) → ℕ → Store D → Store D → Result ℕ OpenError → Type 0

@@ -1,14 +1,15 @@
 // The fields of the memory, each read and set. Nobody else looks at the bits of a word.
-ghost use Rattle.std.specs.Prelude.{◌≡◌, ◌*◌, ◌<◌, ◌≤◌, length, nat_le};
+ghost use Rattle.std.specs.Prelude.{◌≡◌, ◌*◌, ◌<◌, ◌≤◌, ◌==◌, length, nat_le, replicate};
 ghost use Rattle.paging.specs.Layout.{numbers, rooms};
 ghost use Rattle.paging.specs.Memory.{bare, vacant};
 ghost use Rattle.pages.specs.Flags.{as_place, flag_in, place_in, with_flag, with_place};
-ghost use Rattle.pages.specs.Of.{view, Sets};
+ghost use Rattle.pages.specs.Of.{lent_to, view, Sets};
 ghost use Rattle.pages.specs.Words.{Flagged};
 
 use crate::flags::{Flag, Version};
 use crate::geometry::Card;
 use crate::memory::Words;
+use std::mem;
 
 // The places that a word can hold.
 const PLACES: u64 = 1 << 38;
@@ -34,28 +35,42 @@ fn with_bit(word: u64, bit: u32, on: bool) -> u64
 impl<'a> Words<'a> {
     // No card is there yet.
     pub(crate) fn new(cells: &'a mut [u64]) -> Words<'a>
-        ensures { view result 0 0 ≡ bare 0 }
+        ensures blank { view result 0 0 ≡ bare 0 }
+        ensures lent { lent_to result ≡ length cells.old }
     {
-        cells.fill(0);
+        let (none, idle) = cells.split_at_mut(0);
         Words {
-            card: Card { sectors: 0 },
-            cells,
+            card: Card::new(0),
+            cells: none,
+            idle,
         }
     }
 
     // Whether there are two words for each page of a card.
     pub(crate) fn suffices(&self, card: Card) -> bool
-        ensures { result ≡ nat_le (2 * numbers card.sectors) (length self.now.cells.now) }
+        ensures { result ≡ nat_le (2 * numbers card.sectors) (lent_to self.now) }
     {
-        2 * card.pages() <= self.cells.len() as u64
+        2 * card.pages() <= self.cells.len().max(self.idle.len()) as u64
+    }
+
+    // All that is lent is in use from now on, and blank.
+    fn blank(&mut self)
+        ensures cells { self.new.cells.now ≡ replicate (lent_to self.old) 0 }
+    {
+        if self.cells.len() < self.idle.len() {
+            self.idle.fill(0);
+            mem::swap(&mut self.cells, &mut self.idle);
+        } else {
+            self.cells.fill(0);
+        }
     }
 
     // Nothing is known of the card yet: all pages are blank.
     pub(crate) fn clear(&mut self, card: Card)
-        requires { 2 * numbers card.sectors ≤ length self.old.cells.now }
+        requires { 2 * numbers card.sectors ≤ lent_to self.old }
         ensures { view self.new (rooms card.sectors) (rooms card.sectors) ≡ bare card.sectors }
     {
-        self.cells.fill(0);
+        self.blank();
         self.card = card;
     }
 
@@ -66,6 +81,14 @@ impl<'a> Words<'a> {
     {
         let place = self.cells[2 * n as usize + version.word()] % PLACES;
         place.checked_sub(1)
+    }
+
+    // Whether both versions of a page lie at one physical page, or both at none.
+    pub(crate) fn is_unmoved(&self, n: u64) -> bool
+        requires { n < numbers self.now.card.sectors }
+        ensures { result ≡ ((view self.now 0 0).now n == (view self.now 0 0).old n) }
+    {
+        self.cells[2 * n as usize] % PLACES == self.cells[2 * n as usize + 1] % PLACES
     }
 
     pub(crate) fn set_place(&mut self, version: Version, n: u64, place: Option<u64>)

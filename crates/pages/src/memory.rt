@@ -8,6 +8,8 @@ use crate::geometry::Card;
 pub(crate) struct Words<'a> {
     pub(crate) card: Card,
     pub(crate) cells: &'a mut [u64],
+    // What is lent lies here until there first is a card: no word is touched before.
+    pub(crate) idle: &'a mut [u64],
     ghost fits: { Fits (ram card.sectors cells.now 0 0) },
 }
 

@@ -29,7 +29,7 @@ impl TryFrom<u64> for Card {
         if sectors > MOST_SECTORS {
             return Err(OpenError::TooManySectors);
         }
-        Ok(Card { sectors })
+        Ok(Card::new(sectors))
     }
 }
 

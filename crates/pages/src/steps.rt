@@ -3,7 +3,7 @@ ghost use Rattle.std.specs.Prelude.{◌≡◌, ◌+◌, ◌-◌, ◌*◌, ◌<�
 ghost use Rattle.paging.specs.Layout.{numbers, rooms, inner, last_node};
 ghost use Rattle.paging.specs.Memory.{bare, mark, moved, placed, durable, settled, settled_at, settled_from, cleaned, cleaned_below, tidied, selected, vacant, find_down, free, target, find_blank, spare_from, with_dirty};
 ghost use Rattle.pages.specs.Flags.{as_place, claimed, with_flag, with_place, Twice};
-ghost use Rattle.pages.specs.Of.{CanSet, IsNode, IsPage, IsPlace, Steps, page_told, seen};
+ghost use Rattle.pages.specs.Of.{CanSet, IsNode, IsPage, IsPlace, Steps, lent_to, page_told, seen};
 
 use crate::flags::{Flag, Version};
 use crate::geometry::{CHILDREN, Card, DEPTH, LEAF_PAGES, child_of};
@@ -33,7 +33,7 @@ impl<'a> Memory<'a> {
 
     // Nothing is known of the card yet: all pages are blank.
     pub(crate) fn clear(&mut self, card: Card)
-        requires { 2 * numbers card.sectors ≤ length self.old.words.cells.now }
+        requires { 2 * numbers card.sectors ≤ lent_to self.old.words }
         ensures { seen self.new ≡ bare card.sectors }
     {
         self.words.clear(card);
@@ -71,7 +71,8 @@ impl<'a> Memory<'a> {
         self.words.set(flag, i, on);
     }
 
-    // The page n comes to be at a place.
+    // The page n comes to be at a place. Inline, as coming up does it for each page of the card.
+    #[inline(always)]
     pub(crate) fn relocate(&mut self, n: u64, place: Option<u64>)
         requires { IsPage self.old n × IsPlace self.old place }
         ensures { Steps self.old self.new (placed n (as_place place) (seen self.old)) }
@@ -121,7 +122,8 @@ impl<'a> Memory<'a> {
         }
     }
 
-    // The page n has been synced.
+    // The page n has been synced. Inline, as coming up does it for each page of the card.
+    #[inline(always)]
     pub(crate) fn settle(&mut self, n: u64)
         requires { IsPage self.old n }
         ensures { Steps self.old self.new (settled n (seen self.old)) }
@@ -290,12 +292,11 @@ impl<'a> Memory<'a> {
         requires { IsPage self.now n }
         ensures { Twice (seen self.now) n result }
     {
+        if self.words.is_unmoved(n) {
+            return None;
+        }
         let now = self.words.place(Version::Now, n)?;
         let synced = self.words.place(Version::Synced, n)?;
-        if now == synced {
-            None
-        } else {
-            Some((now, synced))
-        }
+        Some((now, synced))
     }
 }
