@@ -1,7 +1,8 @@
 -- The frame that has a page, found from the last one on.
 -- Assumes nothing.
-use Rattle.std.proofs.Common.{map-id, ◌≡◌, ℕ, zero, suc, ◌-◌, ◌<◌, Bool, true, false, List, length, get_or, Some, None, Option, refl, sym, ap, ◌∙◌, subst, inl, inr, arith}
+use Rattle.std.proofs.Common.{map-id, ◌≡◌, ℕ, zero, suc, ◌-◌, ◌<◌, Bool, true, false, List, length, get_or, take, Some, None, Option, refl, sym, ap, ◌∙◌, subst, inl, inr, arith}
 use Rattle.std.proofs.lemmas.Bool.{cases_eq}
+use Rattle.std.proofs.lemmas.List.{get_or-take}
 use Rattle.std.specs.Borrow.{Bor}
 use Rattle.std.specs.List.{AllZip}
 use Rattle.std.proofs.lemmas.Slice.Zip.{AllZip-map}
@@ -31,6 +32,10 @@ module _ (ts : List Tag) (n : ℕ) where
   pub found : (c : ℕ) (r : Option ℕ) → (r ≡ None → (k : ℕ) → k < c → holds (get_or ts k Free) n ≡ false) → ((i : ℕ) → r ≡ Some i → (i < c) × (holds (get_or ts i Free) n ≡ true) × Not i c) → r ≡ find_tag c ts n
   found c None f g = found_none c (f refl)
   found c (Some i) f g = let (l, h, k) = g i refl in found_some c i l h k
+
+-- so much of the tags has the same at each place
+pub in_part : (ts xs : List Tag) (c k n : ℕ) (b : Bool) → xs ≡ take c ts → k < c → holds (get_or xs k Free) n ≡ b → holds (get_or ts k Free) n ≡ b
+in_part ts xs c k n b e l h = ap (λ t. holds t n) (sym (get_or-take c ts k Free l) ∙ ap (λ xs. get_or xs k Free) (sym e)) ∙ h
 
 -- what the item at a place from the back is
 of-seen : (o : Option (Bor Tag)) (t : Tag) (n : ℕ) (b : Bool) (Q : Bor Tag → Type 0) → option_map (λ y. y.now) o ≡ Some t → IsSomeAnd o Q → ((y : Bor Tag) → Q y → holds y.now n ≡ b) → holds t n ≡ b

@@ -1,11 +1,13 @@
 -- The calls of the cache, by what the code has found.
 -- Assumes nothing.
-use Rattle.std.proofs.Common.{◌≡◌, ℕ, ◌+◌, ◌%◌, ◌<◌, true, false, ◌&&◌, eqb, List, length, Some, None, Option, sym, refl, ap, ◌∙◌, subst, arith}
+use Rattle.std.proofs.Common.{◌≡◌, ℕ, ◌+◌, ◌%◌, ◌<◌, true, false, ◌&&◌, eqb, List, length, Some, None, Option, sym, refl, ap, ◌∙◌, subst}
 use Rattle.std.proofs.lemmas.Bool.{and_from, lt-ltb}
+use Rattle.std.specs.Option.{unwrap_or}
 use Rattle.device.specs.Sectors.{all_bytes}
 use Rattle.device.specs.Flow.{lt, eq, is, on, out, Runs}
 use Rattle.device.proofs.Loops.{taken, left}
 use Rattle.paging.specs.Pages.{PageCall, Get, Spare, Told}
+use Rattle.pages.specs.Of.{page_told}
 use Rattle.caching.specs.declared.Tag.TheVariants.{Clean}
 use Rattle.caching.specs.Frames.{Cache, count, filled, find, is_marked}
 use Rattle.caching.specs.Cache.{can_put, evict, get, spare_turn}
@@ -29,14 +31,14 @@ pub get-read : {S : Type 0} (goes : S → (c : PageCall) → Told c → S → Ty
 get-read goes n m d l e i u v b t x c r h q f =
     taken (lt _ _) l (with_none e (left (eq _ _) c (u, t, r, (b, x, q, (refl, λ j. (b, (ap (λ (i : ℕ). filled i (Clean n) b u) (sym h) ∙ sym f) j))))))
 
--- SPARE
-module _ {S : Type 0} (goes : S → (c : PageCall) → Told c → S → Type 0) (m : Cache) (i at : ℕ) (d t : S) where
-  pub spare_none : (u : Cache) → goes d (Spare at) 0 t → m ≡ u → Runs goes (spare_turn m i at) d t (out (0, u))
-  spare_none u q f = (0, t, q, taken (eq _ _) refl (refl, λ j. out (0, f j)))
+-- SPARE: what is told, as the code goes on with it
+pub told_as : (o : Option ℕ) (n : ℕ) → n ≡ unwrap_or o 0 → page_told o ≡ n
+told_as (Some k) n e = sym e
+told_as None n e = sym e
 
-  module _ (n : ℕ) (q : goes d (Spare at) n t) (l : 0 < n) where
-    pub spare-on : is_marked m n ≡ true → Runs goes (spare_turn m i at) d t (on ((n + 1) % 18446744073709551616))
-    spare-on e = (n, t, q, left (eq n 0) (λ z. omega arith) (taken (is _) e (refl, refl)))
+module _ {S : Type 0} (goes : S → (c : PageCall) → Told c → S → Type 0) (m : Cache) (i at n : ℕ) (d t : S) (q : goes d (Spare at) n t) where
+  pub spare-on : is_marked m n ≡ true → Runs goes (spare_turn m i at) d t (on ((n + 1) % 18446744073709551616))
+  spare-on e = (n, t, q, taken (is _) e (refl, refl))
 
-    pub spare-out : (u : Cache) → is_marked m n ≡ false → m ≡ u → Runs goes (spare_turn m i at) d t (out (n, u))
-    spare-out u e f = (n, t, q, left (eq n 0) (λ z. omega arith) (left (is _) e (refl, λ j. out (n, f j))))
+  pub spare-out : (u : Cache) → is_marked m n ≡ false → m ≡ u → Runs goes (spare_turn m i at) d t (out (n, u))
+  spare-out u e f = (n, t, q, left (is _) e (refl, λ j. out (n, f j)))

@@ -14,7 +14,7 @@ use Rattle.cache.specs.Serving.{cache_of}
 abbrev pub store_below : {D : Type 0} → Cached (MutBor (Store D)) → Store D
 store_below c = c.pages.now
 
--- how many frames there are: those that were lent, up to 128
+-- how many frames are lent
 abbrev pub frames_of : {P : Type 0} → Cached P → ℕ
 frames_of c = length c.frames.bytes.now
 

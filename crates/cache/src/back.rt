@@ -1,6 +1,7 @@
 // Marked frames, written below.
 ghost use Rattle.std.specs.Prelude.{◌≡◌, ◌<◌, length, is_ok};
 ghost use Rattle.device.specs.Flow.{Runs};
+ghost use Rattle.caching.specs.Frames.{count};
 ghost use Rattle.caching.specs.Cache.{put_below, write_back, flush, evict, frame_for, make_room};
 ghost use Rattle.cache.specs.Serving.{cache_of};
 
@@ -26,7 +27,7 @@ pub(crate) fn put_below<P: Pages>(
 impl<'f, P: Pages> Cached<'f, P> {
     // A frame, if it is marked. It finds room: what is left was told less the marked frames.
     fn write_back(&mut self, i: usize)
-        requires { i < length self.old.frames.bytes.now }
+        requires { i < count (cache_of self.old) }
         ensures runs { Runs P.Pages.goes (write_back i (cache_of self.old)) self.old.pages self.new.pages (cache_of self.new) }
         ensures count { length self.new.frames.bytes.now ≡ length self.old.frames.bytes.now }
     {
@@ -51,7 +52,7 @@ impl<'f, P: Pages> Cached<'f, P> {
         requires { 0 < length self.old.frames.bytes.now }
         ensures runs { Runs P.Pages.goes (evict (cache_of self.old)) self.old.pages self.new.pages (cache_of self.new) }
         ensures hand { result ≡ self.old.frames.hand }
-        ensures within { result < length self.new.frames.bytes.now }
+        ensures within { result < count (cache_of self.new) }
     {
         let i = self.frames.hand;
         self.write_back(i);
@@ -63,7 +64,7 @@ impl<'f, P: Pages> Cached<'f, P> {
     pub(crate) fn frame_for(&mut self, n: u64) -> usize
         requires { 0 < length self.old.frames.bytes.now }
         ensures runs { Runs P.Pages.goes (frame_for n (cache_of self.old)) self.old.pages self.new.pages (result, cache_of self.new) }
-        ensures within { result < length self.new.frames.bytes.now }
+        ensures within { result < count (cache_of self.new) }
     {
         match self.frames.find(n) {
             Some(i) => i,

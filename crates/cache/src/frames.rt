@@ -1,5 +1,5 @@
 // The lent frames, and what each holds.
-ghost use Rattle.std.specs.Prelude.{◌<◌, ◌≤◌, length};
+ghost use Rattle.std.specs.Prelude.{◌<◌, min, length};
 
 use caching::Tag;
 
@@ -15,7 +15,6 @@ pub(crate) struct Frames<'f> {
     pub(crate) tags: [Tag; MOST_FRAMES],
     // The frame that is given up next.
     pub(crate) hand: usize,
-    // There is a tag for each frame, and the hand is at a frame.
-    ghost tagged: { length bytes.now ≤ 128 },
-    ghost handed: { 0 < length bytes.now → hand < length bytes.now },
+    // The hand is at a frame that is used.
+    ghost handed: { 0 < length bytes.now → hand < min (length bytes.now) 128 },
 }

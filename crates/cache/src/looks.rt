@@ -11,11 +11,9 @@ impl<'f> Frames<'f> {
     pub(crate) fn new(numbers: u64, lent: &'f mut [[u8; 4096]]) -> Frames<'f>
         ensures { seen result ≡ frame.fresh numbers (length lent.old) }
     {
-        let count = lent.len().min(MOST_FRAMES);
-        let (bytes, _) = lent.split_at_mut(count);
         let mut frames = Frames {
             numbers,
-            bytes,
+            bytes: lent,
             tags: [Tag::Free; MOST_FRAMES],
             hand: 0,
         };
@@ -33,10 +31,11 @@ impl<'f> Frames<'f> {
         self.hand = 0;
     }
 
+    // How many frames are used; the rest of what is lent is only blank.
     pub(crate) fn count(&self) -> usize
-        ensures { result ≡ length self.now.bytes.now }
+        ensures { result ≡ frame.count (seen self.now) }
     {
-        self.bytes.len()
+        self.bytes.len().min(MOST_FRAMES)
     }
 
     // The page in a frame.
@@ -51,21 +50,22 @@ impl<'f> Frames<'f> {
     // The frame that has a page.
     pub(crate) fn find(&self, n: u64) -> Option<usize>
         ensures is { result ≡ frame.find (seen self.now) n }
-        ensures within { IfSome result (λ i. i < length self.now.bytes.now) }
+        ensures within { IfSome result (λ i. i < frame.count (seen self.now)) }
     {
-        self.tags[..self.bytes.len()]
+        self.tags[..self.count()]
             .iter()
             .rposition(|tag| tag.has_page(n))
     }
 
-    // How many frames are marked.
+    // How many frames are marked. They are 128 at most, so a byte counts them: of bytes many are added at once.
     pub(crate) fn marks(&self) -> u64
         ensures { result ≡ frame.marks (seen self.now) }
     {
-        self.tags[..self.bytes.len()]
+        let marks: u8 = self.tags[..self.count()]
             .iter()
-            .filter(|tag| tag.is_marked())
-            .count() as u64
+            .map(|tag| u8::from(tag.is_marked()))
+            .sum();
+        u64::from(marks)
     }
 
     pub(crate) fn is_marked(&self, n: u64) -> bool
@@ -86,7 +86,7 @@ impl<'f> Frames<'f> {
 
     // A page comes into a frame.
     pub(crate) fn fill(&mut self, i: usize, tag: Tag, page: &[u8; 4096])
-        requires { i < length self.old.bytes.now }
+        requires { i < frame.count (seen self.old) }
         ensures { seen self.new ≡ frame.filled i tag page.now (seen self.old) }
     {
         self.bytes[i] = *page;
@@ -99,6 +99,6 @@ impl<'f> Frames<'f> {
         ensures { seen self.new ≡ frame.turned (seen self.old) }
     {
         let next = self.hand + 1;
-        self.hand = if next < self.bytes.len() { next } else { 0 };
+        self.hand = if next < self.count() { next } else { 0 };
     }
 }

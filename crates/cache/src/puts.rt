@@ -15,11 +15,12 @@ impl<'f, P: Pages> Cached<'f, P> {
     fn staying(&self, n: u64, bytes: &[u8; 4096], how: How, left: u64) -> Option<Tag>
         ensures { result ≡ staying n bytes.now how left (cache_of self.now) }
     {
+        let tag = how.tag(n)?;
         let frames = &self.frames;
         if is_blank(bytes) || frames.count() == 0 || left <= frames.marks() {
             return None;
         }
-        how.tag(n)
+        Some(tag)
     }
 
     fn put_with(&mut self, n: u64, bytes: &[u8; 4096], how: How, left: u64) -> Result<(), Refused>

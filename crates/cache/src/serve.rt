@@ -96,9 +96,11 @@ impl<'f, P: Pages> Pages for Cached<'f, P> {
         // As many turns as may find a page in a frame, and one more; where to look on comes from what was found.
         let mut at = from;
         for _ in 0..self.frames.count() + 1 {
-            let n = self.pages.spare(at)?;
+            let found = self.pages.spare(at);
+            // None is told as 0, and page 0 may be marked where no store came up.
+            let n = found.unwrap_or(0);
             if !self.frames.is_marked(n) {
-                return Some(n);
+                return found;
             }
             at = n.wrapping_add(1);
         }

@@ -411,9 +411,8 @@ module _ (z : ℕ) (v : State) where
 
   -- SPARE
   module _ (from : ℕ) where
-    -- none is right, and so is what is not in a marked frame
-    spared : {m : Cache} {s t : State} {x : PageReply} (at : ℕ) → CacheOn z m s v → Answers z (Spare at) s x t → (t ≡ s) × ((number_in x ≡ 0) ⊎ (is_marked m (number_in x) ≡ false) → Answers z (Spare from) v (Number (number_in x)) v)
-    spared {m} at r (Answers.spares f n s a b c) = (refl, λ o. elim o [ inl e ↦ absurd (omega arith) | inr e ↦ Answers.spares from n v a b (now-clean n (clean-here n e (r.shows n)) (r.shows n) ∙ c) ])
+    spared : {m : Cache} {s t : State} {x : PageReply} (at : ℕ) → CacheOn z m s v → Answers z (Spare at) s x t → (t ≡ s) × (is_marked m (number_in x) ≡ false → Answers z (Spare from) v (Number (number_in x)) v)
+    spared {m} at r (Answers.spares f n s a b c) = (refl, λ e. Answers.spares from n v a b (now-clean n (clean-here n e (r.shows n)) (r.shows n) ∙ c))
     spared {m} at r (Answers.no_spare f s a b) =
         let e : marks m ≡ 0 = let l = r.left in omega arith in
         (refl, λ _. Answers.no_spare from v (let l = r.left in omega arith) (subst (λ f. rooms z < live (numbers z) f) (sym (all-now r e)) b))
@@ -429,9 +428,8 @@ module _ (z : ℕ) (v : State) where
         step i at s' l h k =
             Wp.calls 0 h (omega arith) (λ x t q.
             let (e, f) = spared at k q in
-            subst (λ t. Wp z (Falls (Spare from)) (Turned z (Falls (Spare from)) (λ i at s'. CacheOn z m s' v) (Ended (Spare from)) (suc i)) 0 (cond (eqb (number_in x) 0) (gives (out (0, m))) (cond (is_marked m (number_in x)) (gives (on ((number_in x + 1) % 2 ^ 64))) (gives (out (number_in x, m))))) t) (sym e)
-            (wp-cond z (Falls (Spare from)) (eqb (number_in x) 0) (λ g. let o = eqb-true (number_in x) 0 g in Wp.ends h (v, subst (λ y. Answers z (Spare from) v (Number y) v) o (f (inl o)), k))
-            (λ _. wp-cond z (Falls (Spare from)) (is_marked m (number_in x)) (λ g. Wp.ends h k) (λ g. Wp.ends h (v, f (inr g), k)))))
+            subst (λ t. Wp z (Falls (Spare from)) (Turned z (Falls (Spare from)) (λ i at s'. CacheOn z m s' v) (Ended (Spare from)) (suc i)) 0 (cond (is_marked m (number_in x)) (gives (on ((number_in x + 1) % 2 ^ 64))) (gives (out (number_in x, m)))) t) (sym e)
+            (wp-cond z (Falls (Spare from)) (is_marked m (number_in x)) (λ g. Wp.ends h k) (λ g. Wp.ends h (v, f g, k))))
 
         last : (at : ℕ) (s' : State) → Falls (Spare from) s' → CacheOn z m s' v → Wp z (Falls (Spare from)) (Ended (Spare from)) 0 (planned (spare_after from m)) s'
         last at s' h k =
@@ -439,7 +437,7 @@ module _ (z : ℕ) (v : State) where
             (wp-more z (Falls (Spare from)) 0 (omega arith) (λ u s'' (a, e).
             Wp.calls 0 (here s'' a.tied.still) (omega arith) (λ x t q.
             let (i, f) = spared from a.tied q in
-            subst (λ t. Wp z (Falls (Spare from)) (Ended (Spare from)) 0 (gives (number_in x, u)) t) (sym i) (Wp.ends (here s'' a.tied.still) (v, f (inr (not-marked u (number_in x) e)), a.tied))))
+            subst (λ t. Wp z (Falls (Spare from)) (Ended (Spare from)) 0 (gives (number_in x, u)) t) (sym i) (Wp.ends (here s'' a.tied.still) (v, f (not-marked u (number_in x) e), a.tied))))
             (flushes z v (Falls (Spare from)) here m s' k))
 
   -- LEFT and LABEL

@@ -1,6 +1,6 @@
 -- Frames: which has a page, how many are marked, and one that changes.
 -- Assumes nothing.
-use Rattle.std.proofs.Common.{◌≡◌, ℕ, zero, suc, ◌+◌, ◌<◌, ◌≤◌, Bool, true, false, cond, eqb, List, length, get_or, take, take_all, count_by, set, Some, None, Option, sym, refl, ap, ◌∙◌, inl, inr, ◌⊎◌, arith, length-set, get_or-set_other, get_or-set_same}
+use Rattle.std.proofs.Common.{◌≡◌, ℕ, zero, suc, ◌+◌, ◌<◌, ◌≤◌, Bool, true, false, cond, eqb, List, length, get_or, min, take, take_all, count_by, set, Some, None, Option, sym, refl, ap, ◌∙◌, inl, inr, ◌⊎◌, arith, length-set, get_or-set_other, get_or-set_same}
 use Rattle.std.proofs.lemmas.Bool.{cases_eq, cases_lt, cases_Bool, both_ways, eqb-true, eq-eqb, ne_eqb}
 use Rattle.std.proofs.lemmas.List.{get_or_past, get_or-take, length-take, length-take-le}
 use Rattle.std.proofs.Math.Seq.{take-set-lt}
@@ -133,10 +133,10 @@ pub tag-beside : (i : ℕ) (g : Tag) (m : Cache) → Beside i m (with_tag i g m)
 tag-beside i g m = record { size = refl; tags = λ k h. get_or-set_other m.tags i k g Free h; frames = λ k h. refl }
 
 pub fill-beside : (i : ℕ) (g : Tag) (b : List ℕ) (m : Cache) → Beside i m (filled i g b m)
-fill-beside i g b m = record { size = length-set m.frames i b; tags = λ k h. get_or-set_other m.tags i k g Free h; frames = λ k h. get_or-set_other m.frames i k b _ h }
+fill-beside i g b m = record { size = ap (λ n. min n 128) (length-set m.frames i b); tags = λ k h. get_or-set_other m.tags i k g Free h; frames = λ k h. get_or-set_other m.frames i k b _ h }
 
 pub tag-there : (i : ℕ) (g : Tag) (m : Cache) → i < count m → count m ≤ length m.tags → tag_at (with_tag i g m) i ≡ g
 tag-there i g m l k = get_or-set_same m.tags i g Free (omega arith)
 
 pub frame-there : (i : ℕ) (g : Tag) (b : List ℕ) (m : Cache) → i < count m → frame_at (filled i g b m) i ≡ b
-frame-there i g b m l = get_or-set_same m.frames i b _ l
+frame-there i g b m l = get_or-set_same m.frames i b _ (omega arith)

@@ -28,7 +28,7 @@ module _ (z frames : ℕ) (s v : State) (o : CacheOff z s v) where
   m = fresh (numbers z) frames
 
   so-many : count m ≡ min frames 128
-  so-many = length-replicate (min frames 128) blank_page
+  so-many = ap (λ n. min n 128) (length-replicate frames blank_page)
 
   bare : (i : ℕ) → i < count m → tag_at m i ≡ Free
   bare i l = let c = so-many in get_or-replicate 128 i Free Free (omega arith)

@@ -83,9 +83,9 @@ volatile n m =
     (λ i. when (is (unwritten (tag_at m i))) (answer (true, with_tag i (Marked n true) m)) (ask (Volatile n) (λ r. answer (r, m))))
     (ask (Volatile n) (λ r. answer (r, m)))
 
--- SPARE. None below, told by 0, is none. What is blank below may be in a marked frame: then on from there. Where that does not end, all is written below first.
+-- SPARE. What is blank below may be in a marked frame: then on from there. Where that does not end, all is written below first.
 abbrev pub spare_turn : Cache → ℕ → ℕ → OnPages (Turn ℕ (ℕ × Cache))
-spare_turn m i from = ask (Spare from) (λ n. when (eq n 0) (answer (out (0, m))) (when (is (is_marked m n)) (answer (on ((n + 1) % 2 ^ 64))) (answer (out (n, m)))))
+spare_turn m i from = ask (Spare from) (λ n. when (is (is_marked m n)) (answer (on ((n + 1) % 2 ^ 64))) (answer (out (n, m))))
 
 abbrev pub spare_after : ℕ → Cache → OnPages (ℕ × Cache)
 spare_after from m = first (flush m) (λ t. ask (Spare from) (λ n. answer (n, t)))

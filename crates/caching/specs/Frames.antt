@@ -43,13 +43,13 @@ pub record Cache : Type 0 where
   pub tags : List Tag
   pub hand : ℕ
 
--- There are tags for 128 frames, and no more are used. Nothing is held at first.
+-- There are tags for 128 frames. Nothing is held at first.
 abbrev pub fresh : (numbers frames : ℕ) → Cache
-fresh numbers frames = record { numbers = numbers; frames = replicate (min frames 128) blank_page; tags = replicate 128 Free; hand = 0 }
+fresh numbers frames = record { numbers = numbers; frames = replicate frames blank_page; tags = replicate 128 Free; hand = 0 }
 
--- how many frames there are
+-- how many frames are used: no more than there are tags for
 abbrev pub count : Cache → ℕ
-count m = length m.frames
+count m = min (length m.frames) 128
 
 abbrev pub frame_at : Cache → ℕ → List ℕ
 frame_at m i = slice_index_or m.frames i []

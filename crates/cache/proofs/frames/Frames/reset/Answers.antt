@@ -1,4 +1,4 @@
-use Rattle.std.proofs.Common.{arith, ◌≡◌, ℕ, min, length, replicate, List, ap, ◌∙◌}
+use Rattle.std.proofs.Common.{◌≡◌, ℕ, length, replicate, List, ap}
 use Rattle.paging.specs.Pages.{blank_page}
 use Rattle.caching.specs.Frames.{Cache}
 use Rattle.caching.specs.declared.Tag.TheVariants.{Free}
@@ -9,6 +9,5 @@ pub returns : goal.returns
 returns c =
     let s = c.args.self.now in
     let f : c.fill.new.self ≡ replicate (length s.bytes.now) blank_page = c.fill.ensures.after (λ y e. same-items _ _ e.whole) in
-    let n : length s.bytes.now ≡ min (length s.bytes.now) 128 = let a = s.tagged in omega arith in
     let m : List (List ℕ) → Cache = λ b. record { numbers = c.args.numbers; frames = b; tags = replicate 128 Free; hand = 0 } in
-    ap m (f ∙ ap (λ n. replicate n blank_page) n)
+    ap m f
