@@ -1,38 +1,34 @@
 -- Words looked up. Assumes nothing.
-use Rattle.std.proofs.Common.{◌≡◌, ℕ, Bool, true, false, ltb, List, [], ◌∷◌, length, get_or, None, ⊎_elim, sym, refl, ◌∙◌, arith}
-use Rattle.std.specs.List.{list_all}
-use Rattle.std.specs.Str.{IsAscii, IsUtf8, bytes_eq}
-use Rattle.std.proofs.lemmas.Bool.{and_parts, cond-false, ltb-true, cases_Bool, cases_lt}
-use Rattle.std.proofs.lemmas.List.{get_or_past}
-use Rattle.std.proofs.lemmas.List.Recursion.{and_at}
-use Rattle.std.proofs.lemmas.Slice.Eq.{bytes_eq-Decides}
-use Rattle.std.proofs.lemmas.Str.{IsUtf8-from_ascii}
+use Rattle.std.proofs.Common.{◌≡◌, ℕ, List, length, Some, sym, refl, ap, ◌∙◌}
+use Rattle.std.proofs.lemmas.Slice.Eq.{HasBytesAt, text_from_reads}
 use Rattle.lines.specs.declared.verbs.Verb.{Verb}
+use Rattle.lines.specs.declared.verbs.Verb.TheVariants.{Open, Read, Write, Resize, NextName, Sync, Help, OfHandle, OfPath, OfPaths}
+use Rattle.lines.specs.declared.verbs.HandleVerb.TheVariants.{Close, StatOpen, List as ListNames}
+use Rattle.lines.specs.declared.verbs.PathVerb.TheVariants.{Stat, MakeFolder, Remove, RemoveFolder, ReadLink}
+use Rattle.lines.specs.declared.verbs.PathsVerb.TheVariants.{Rename, Join, MakeLink}
 use Rattle.lines.specs.Verbs.{verb_word, verbs, verb_among, verb_of}
 
-abbrev small : ℕ → Bool
-small b = ltb b 128
+own_word : (v : Verb) → Some v ≡ verb_of (verb_word v)
+unfolding verbs verb_among verb_of
+own_word Open = refl
+own_word (OfHandle Close) = refl
+own_word Read = refl
+own_word Write = refl
+own_word Resize = refl
+own_word (OfPath Stat) = refl
+own_word (OfHandle StatOpen) = refl
+own_word (OfPath MakeFolder) = refl
+own_word (OfPath Remove) = refl
+own_word (OfPath RemoveFolder) = refl
+own_word NextName = refl
+own_word (OfHandle ListNames) = refl
+own_word (OfPaths Rename) = refl
+own_word (OfPaths Join) = refl
+own_word (OfPaths MakeLink) = refl
+own_word (OfPath ReadLink) = refl
+own_word Sync = refl
+own_word Help = refl
 
-pub ascii : (u : List ℕ) → list_all small u ≡ true → IsAscii u
-ascii u t i =
-    ⊎_elim
-    (λ l. ltb-true (get_or u i 0) 128 (and_at (list_all small) small refl (λ _ _. refl) u i 0 l t))
-    (λ l. omega (arith, get_or_past u i 0 l))
-    (cases_lt i (length u))
-
--- what is no text is no word that stands in the code
-pub differs : (w u : List ℕ) → ¬ (IsUtf8 w) → list_all small u ≡ true → bytes_eq w u ≡ false
-differs w u h t =
-    ⊎_elim
-    (λ e. let q : w ≡ u = (bytes_eq-Decides w u).0 e in absurd (h (rw q (IsUtf8-from_ascii u (ascii u t)))))
-    (λ e. e)
-    (cases_Bool (bytes_eq w u))
-
-no_verb-among : (vs : List Verb) (w : List ℕ) → ¬ (IsUtf8 w) → list_all (λ v. list_all small (verb_word v)) vs ≡ true → verb_among vs w ≡ None
-unfolding verb_among
-no_verb-among [] w h t = refl
-no_verb-among (v ∷ vs) w h t = let p = and_parts _ _ t in cond-false _ _ _ (differs w (verb_word v) h p.0) ∙ no_verb-among vs w h p.1
-
-pub no_verb : (w : List ℕ) → ¬ (IsUtf8 w) → None ≡ verb_of w
-unfolding verbs verb_of
-no_verb w h = sym (no_verb-among verbs w h refl)
+-- what code knows that tested the length and then each byte
+pub verb_read : (w : List ℕ) (v : Verb) → length w ≡ length (verb_word v) → HasBytesAt w 0 (verb_word v) → Some v ≡ verb_of w
+verb_read w v n h = own_word v ∙ ap verb_of (sym (text_from_reads w (verb_word v) n h))

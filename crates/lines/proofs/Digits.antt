@@ -1,11 +1,11 @@
 -- Decimal digits, read from the left. Assumes nothing.
-use Rattle.std.proofs.Common.{◌≡◌, ℕ, ◌^◌, ◌<◌, true, false, cond, ◌&&◌, List, length, get_or, ltb, leb, Ok, Err, Result, ⊎_elim, sym, refl, ap, ◌∙◌, arith, rules}
+use Rattle.std.proofs.Common.{◌≡◌, ℕ, ◌^◌, ◌<◌, true, cond, ◌&&◌, List, length, get_or, ltb, leb, Ok, Err, Result, ⊎_elim, sym, refl, ap, ◌∙◌, arith, rules}
 use Rattle.std.specs.Char.{is_ascii_digit}
 use Rattle.std.specs.List.{list_all}
 use Rattle.std.specs.Result.{OkIff, result_or}
 use Rattle.std.specs.Str.{all_ascii_digits, IsAscii, IsUtf8}
 use Rattle.std.specs.Str.Parse.{ParsesUnsigned}
-use Rattle.std.proofs.lemmas.Bool.{and_parts, leb-true, cond-true, cond-false, and_from, lt-ltb, le-ltb, cases_lt, cases_Bool}
+use Rattle.std.proofs.lemmas.Bool.{and_parts, leb-true, cond-true, cond-false, and_from, lt-ltb, le-ltb, cases_lt}
 use Rattle.std.proofs.lemmas.List.{get_or_past}
 use Rattle.std.proofs.lemmas.List.Recursion.{same_from_clauses, and_at}
 use Rattle.std.proofs.lemmas.Str.{IsUtf8-from_ascii}
@@ -27,17 +27,9 @@ digits-ascii w e i =
     (λ l. omega (arith, get_or_past w i 0 l))
     (cases_lt i (length w))
 
-pub no-digits : (w : List ℕ) → (ltb 0 (length w) && all_ascii_digits w) ≡ false → Err fault.NoNumber ≡ number_of w
-unfolding number_of
-no-digits w e = sym (cond-false _ _ _ e)
-
 -- digits are text
-pub no_text : (w : List ℕ) → ¬ (IsUtf8 w) → Err fault.NoNumber ≡ number_of w
-no_text w h =
-    ⊎_elim
-    (λ e. absurd (h (IsUtf8-from_ascii w (digits-ascii w (and_parts _ _ e).1))))
-    (λ e. no-digits w e)
-    (cases_Bool (ltb 0 (length w) && all_ascii_digits w))
+pub digits_text : (w : List ℕ) → all_ascii_digits w ≡ true → IsUtf8 w
+digits_text w e = IsUtf8-from_ascii w (digits-ascii w e)
 
 -- what `parse` makes of digits, with the one fault that is left
 pub parsed : {E : Type 0} (w : List ℕ) (r : Result ℕ E) → all_ascii_digits w ≡ true → 0 < length w → ParsesUnsigned 64 10 w r → result_or r (Err fault.NumberTooLarge) ≡ number_of w

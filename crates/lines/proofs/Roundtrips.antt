@@ -5,10 +5,12 @@ use Rattle.std.specs.Int.{is_in_range}
 use Rattle.std.specs.Char.{is_ascii_digit}
 use Rattle.std.specs.Option.{option_map}
 use Rattle.std.specs.List.{AllByRecursion}
-use Rattle.std.specs.Str.{all_ascii_digits, bytes_eq}
+use Rattle.std.specs.Str.{all_ascii_digits, bytes_eq, IsUtf8}
 use Rattle.std.proofs.lemmas.Fmt.{decimal_nonempty, digits_decimal, digits_value-decimal}
-use Rattle.std.proofs.ByRecursion.{All-append}
-use Rattle.std.proofs.lemmas.Bool.{and_parts, and_from, and_left, leb-true, le-leb, lt-ltb, ltb-true, ltb-false, ne_eqb, eqb-false, not-true, cond-true, cond-false, cond_both, cases_Bool}
+use Rattle.std.proofs.ByRecursion.{All-append, All-get_or}
+use Rattle.std.proofs.lemmas.List.{get_or_past}
+use Rattle.std.proofs.lemmas.Str.{IsUtf8-from_ascii}
+use Rattle.std.proofs.lemmas.Bool.{and_parts, and_from, and_left, leb-true, le-leb, lt-ltb, ltb-true, ltb-false, ne_eqb, eqb-false, not-true, cond-true, cond-false, cond_both, cases_Bool, cases_lt}
 use Rattle.std.proofs.lemmas.Bool.Decides.{nat_tests}
 use Rattle.lines.specs.declared.faults.Fault.TheVariants as fault
 use Rattle.lines.specs.declared.notations.Notation.{Notation}
@@ -155,3 +157,14 @@ text-word n b bs h = (byte-some n b (all_text n bs), all_shown n (b ∷ bs) h)
 pub path-word : (bs : List ℕ) → AreBytes bs → IsWord (text_of Path bs)
 path-word [] h = (omega arith, ((omega arith, omega arith), ((omega arith, omega arith), tt)))
 path-word (b ∷ bs) h = text-word Path b bs h
+
+-- what is printed is text
+pub text_utf8 : (n : Notation) (bs : List ℕ) → AreBytes bs → IsUtf8 (all_text n bs)
+text_utf8 n bs h =
+    let t = all_text n bs in
+    IsUtf8-from_ascii t
+    (λ i.
+    ⊎_elim
+    (λ l. let s = All-get_or Shown t i 0 l (all_shown n bs h) in omega arith)
+    (λ l. omega (arith, get_or_past t i 0 l))
+    (cases_lt i (length t)))

@@ -20,26 +20,26 @@ pub fn miscount(args: &[&[u8]], least: usize, most: usize) -> Fault
     }
 }
 
-#[tactic(auto, using(crate::proofs::Commands::differs), unfolding(crate::specs::Arguments::way_for))]
+#[tactic(auto, unfolding(crate::specs::Arguments::way_for))]
 pub fn way_for(word: &[u8]) -> Result<Way, Fault>
     ensures { told way_of result ≡ way_for word.now }
 {
-    match str::from_utf8(word) {
-        Ok("old") => Ok(Way::Old),
-        Ok("may") => Ok(Way::May),
-        Ok("new") => Ok(Way::New),
+    match word {
+        b"old" => Ok(Way::Old),
+        b"may" => Ok(Way::May),
+        b"new" => Ok(Way::New),
         _ => Err(Fault::BadWay),
     }
 }
 
 // Whether a file is opened for writing.
-#[tactic(auto, using(crate::proofs::Commands::differs), unfolding(crate::specs::Arguments::access_for))]
+#[tactic(auto, unfolding(crate::specs::Arguments::access_for))]
 pub fn access_for(word: &[u8]) -> Result<bool, Fault>
     ensures { result ≡ access_for word.now }
 {
-    match str::from_utf8(word) {
-        Ok("read") => Ok(false),
-        Ok("write") => Ok(true),
+    match word {
+        b"read" => Ok(false),
+        b"write" => Ok(true),
         _ => Err(Fault::BadAccess),
     }
 }

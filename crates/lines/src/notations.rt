@@ -1,6 +1,7 @@
 // Bytes, as the words of a line and the answers have them.
-ghost use Rattle.std.specs.Prelude.{◌≡◌, Some, IfOk, vec_items, string_bytes};
-ghost use Rattle.lines.specs.Bytes.{pair_value, first_pair, first_escaped, first_of, bytes_of, no_bytes, fault_of, is_plain, byte_text, text_of};
+ghost use Rattle.std.specs.Prelude.{◌≡◌, ◌+◌, ◌<◌, ◌≤◌, ◌++◌, take, length, Some, IfOk, vec_items, string_bytes};
+ghost use Rattle.std.specs.Str.{IsUtf8};
+ghost use Rattle.lines.specs.Bytes.{pair_value, first_pair, first_escaped, first_of, bytes_of, no_bytes, fault_of, hex_digit, hex_pair, is_plain, byte_text, all_text, text_of};
 ghost use Rattle.lines.specs.Lines.{BytesBack};
 ghost use Rattle.lines.specs.Of.{Comes, first_in};
 
@@ -12,6 +13,12 @@ use std::fmt::Display;
 const ESCAPE: u8 = b'\\';
 
 const SPACE: u8 = b' ';
+
+// So many bytes are written by one call, since a call costs more than a byte does.
+const AT_ONCE: usize = 64;
+
+// The text of a byte has at most three.
+const ROOM: usize = 3 * AT_ONCE;
 
 // How bytes are written: two hexadecimal digits for each, or as they stand but for those that are escaped.
 #[derive(Clone, Copy, Debug, PartialEq, Eq)]
@@ -48,6 +55,26 @@ fn first_escaped(text: &[u8]) -> Option<(u8, &[u8])>
         [first, rest @ ..] if *first > SPACE => Some((*first, rest)),
         _ => None,
     }
+}
+
+fn hex_digit(value: u8) -> u8
+    requires { value < 16 }
+    ensures { result ≡ hex_digit value }
+{
+    if value < 10 {
+        b'0' + value
+    } else {
+        b'a' - 10 + value
+    }
+}
+
+// Puts the two digits of a byte at a place.
+fn put_pair(text: &mut [u8; ROOM], at: usize, byte: u8)
+    requires { at + 2 ≤ ROOM }
+    ensures { take (at + 2) text.new ≡ take at text.old ++ hex_pair byte }
+{
+    text[at] = hex_digit(byte / 16);
+    text[at + 1] = hex_digit(byte % 16);
 }
 
 // Whether a byte of a path is printed as it stands.
@@ -107,6 +134,43 @@ impl Notation {
         }
     }
 
+    // Puts the text of a byte at a place, and says where it ends.
+    fn put(self, text: &mut [u8; ROOM], at: usize, byte: u8) -> usize
+        requires { at + 3 ≤ ROOM }
+        ensures text { take result text.new ≡ take at text.old ++ byte_text self byte }
+        ensures end { result ≤ at + 3 }
+    {
+        match self {
+            Notation::Hex => {
+                put_pair(text, at, byte);
+                at + 2
+            }
+            Notation::Path if is_plain(byte) => {
+                text[at] = byte;
+                at + 1
+            }
+            Notation::Path => {
+                text[at] = ESCAPE;
+                put_pair(text, at + 1, byte);
+                at + 3
+            }
+        }
+    }
+
+    // Puts the text of a few bytes at the front, and says where it ends.
+    fn put_all(self, text: &mut [u8; ROOM], bytes: &[u8]) -> usize
+        requires { length bytes.now ≤ AT_ONCE }
+        ensures text { take result text.new ≡ all_text self bytes.now }
+        ensures utf8 { IsUtf8 (take result text.new) }
+        ensures end { result ≤ ROOM }
+    {
+        let mut end = 0;
+        for byte in bytes {
+            end = self.put(text, end, *byte);
+        }
+        end
+    }
+
     // Bytes as they are printed.
     pub(crate) fn text(self, heap: Global, bytes: &[u8]) -> Result<String, AllocError>
         ensures text { IfOk result (λ s. string_bytes s ≡ text_of self bytes.now) }
@@ -117,26 +181,6 @@ impl Notation {
             notation: self,
         };
         written.to_string(heap)
-    }
-}
-
-// A byte, as it is printed.
-#[derive(Clone, Copy)]
-struct WrittenByte {
-    byte: u8,
-    notation: Notation,
-}
-
-impl fmt::Display for WrittenByte {
-    ghost output = { λ w. Some (byte_text w.notation w.byte) };
-
-    fn fmt<W: fmt::Write>(&self, f: &mut fmt::Formatter<W>) -> fmt::Result {
-        let byte = self.byte;
-        match self.notation {
-            Notation::Hex => write!(f, "{byte:02x}"),
-            Notation::Path if is_plain(byte) => f.write_char(char::from(byte)),
-            Notation::Path => write!(f, "\\{byte:02x}"),
-        }
     }
 }
 
@@ -154,12 +198,13 @@ impl fmt::Display for Written<'_> {
         if self.bytes.is_empty() {
             return f.write_str(self.notation.no_bytes());
         }
-        for byte in self.bytes {
-            let written = WrittenByte {
-                byte: *byte,
-                notation: self.notation,
+        let mut text = [0; ROOM];
+        for bytes in self.bytes.chunks(AT_ONCE) {
+            let end = self.notation.put_all(&mut text, bytes);
+            let Ok(text) = str::from_utf8(&text[..end]) else {
+                unreachable!();
             };
-            written.fmt(f)?;
+            f.write_str(text)?;
         }
         Ok(())
     }

@@ -11,14 +11,15 @@ fn all_digits(word: &[u8]) -> bool
     word.iter().all(|b| b.is_ascii_digit())
 }
 
-#[tactic(auto, using(crate::proofs::Digits::no_text), unfolding(crate::specs::Numbers::number_of))]
+#[tactic(auto, using(crate::proofs::Digits::digits_text), unfolding(crate::specs::Numbers::number_of))]
 pub fn number(word: &[u8]) -> Result<u64, Fault>
     ensures { result ≡ number_of word.now }
 {
+    if word.is_empty() || !all_digits(word) {
+        return Err(Fault::NoNumber);
+    }
     match str::from_utf8(word) {
-        Ok(digits) if all_digits(word) && !word.is_empty() => {
-            digits.parse().or(Err(Fault::NumberTooLarge))
-        }
-        _ => Err(Fault::NoNumber),
+        Ok(digits) => digits.parse().or(Err(Fault::NumberTooLarge)),
+        Err(_) => unreachable!(),
     }
 }

@@ -44,29 +44,29 @@ pub enum PathsVerb {
 
 impl Verb {
     // No TryFrom: that a word is no verb is told apart from the faults of words by who asks.
-    #[tactic(auto, using(crate::proofs::Commands::no_verb), unfolding(crate::specs::Verbs::verbs, crate::specs::Verbs::verb_among, crate::specs::Verbs::verb_of))]
+    #[tactic(auto, unfolding(crate::specs::Verbs::verbs, crate::specs::Verbs::verb_among, crate::specs::Verbs::verb_of))]
     pub fn of(word: &[u8]) -> Option<Verb>
         ensures { result ≡ verb_of word.now }
     {
-        Some(match str::from_utf8(word) {
-            Ok("open") => Verb::Open,
-            Ok("close") => Verb::OfHandle(HandleVerb::Close),
-            Ok("read") => Verb::Read,
-            Ok("write") => Verb::Write,
-            Ok("resize") => Verb::Resize,
-            Ok("stat") => Verb::OfPath(PathVerb::Stat),
-            Ok("statopen") => Verb::OfHandle(HandleVerb::StatOpen),
-            Ok("makefolder") => Verb::OfPath(PathVerb::MakeFolder),
-            Ok("remove") => Verb::OfPath(PathVerb::Remove),
-            Ok("removefolder") => Verb::OfPath(PathVerb::RemoveFolder),
-            Ok("next") => Verb::NextName,
-            Ok("list") => Verb::OfHandle(HandleVerb::List),
-            Ok("rename") => Verb::OfPaths(PathsVerb::Rename),
-            Ok("join") => Verb::OfPaths(PathsVerb::Join),
-            Ok("makelink") => Verb::OfPaths(PathsVerb::MakeLink),
-            Ok("readlink") => Verb::OfPath(PathVerb::ReadLink),
-            Ok("sync") => Verb::Sync,
-            Ok("help") => Verb::Help,
+        Some(match word {
+            b"open" => Verb::Open,
+            b"close" => Verb::OfHandle(HandleVerb::Close),
+            b"read" => Verb::Read,
+            b"write" => Verb::Write,
+            b"resize" => Verb::Resize,
+            b"stat" => Verb::OfPath(PathVerb::Stat),
+            b"statopen" => Verb::OfHandle(HandleVerb::StatOpen),
+            b"makefolder" => Verb::OfPath(PathVerb::MakeFolder),
+            b"remove" => Verb::OfPath(PathVerb::Remove),
+            b"removefolder" => Verb::OfPath(PathVerb::RemoveFolder),
+            b"next" => Verb::NextName,
+            b"list" => Verb::OfHandle(HandleVerb::List),
+            b"rename" => Verb::OfPaths(PathsVerb::Rename),
+            b"join" => Verb::OfPaths(PathsVerb::Join),
+            b"makelink" => Verb::OfPaths(PathsVerb::MakeLink),
+            b"readlink" => Verb::OfPath(PathVerb::ReadLink),
+            b"sync" => Verb::Sync,
+            b"help" => Verb::Help,
             _ => return None,
         })
     }

@@ -1,8 +1,8 @@
-use Rattle.std.proofs.Common.{◌∙◌, sym, rules}
+use Rattle.std.proofs.Common.{◌∙◌, rules}
 use Rattle.lines.proofs.Digits.{parsed}
 use Rattle.lines.proofs.numbers.number.Goals as goal
 
-pub returns-in-Ok : goal.returns-in-Ok
-returns-in-Ok c =
+pub returns : goal.returns
+returns c =
     let w = c.args.word.now in
-    c.or.ensures ∙ parsed w c.parse.result (sym c.if-all_digits.ensures) (search rules) (rw c.in-Ok.ensures.cases.0 at c.parse.ensures.value.0)
+    c.or.ensures ∙ parsed w c.parse.result (search rules) (search rules) (rw c.in-Ok.ensures.cases.0 at c.parse.ensures.value.0)

@@ -1,8 +1,14 @@
-use Rattle.std.proofs.Common.{take}
+use Rattle.std.proofs.Common.{◌≡◌, ℕ, List, ◌++◌}
 use Rattle.std.specs.Fmt.{HasWritten, IsPlainFormatter}
+use Rattle.std.specs.Slice.Iter.{chunks_rest, chunks_size}
+use Rattle.lines.specs.declared.notations.TheConstants.{AT_ONCE}
 use Rattle.lines.specs.Bytes.{all_text}
 use Rattle.lines.proofs.notations.WrittenDisplay.fmt.Given as goal
 
-abbrev pub invariant-loop-byte : goal.invariant-loop-byte
-invariant-loop-byte g l =
-    IsPlainFormatter l.initial.f → HasWritten g.W.Write.write_str_gives l.initial.f (all_text l.self.notation (take l.byte-index l.byte-items)) l.f
+abbrev pub invariant-loop-bytes : goal.invariant-loop-bytes
+invariant-loop-bytes g l =
+    (goal.iterator-loop-bytes g).can_next l.bytes-iterator
+    × (goal.iterator-loop-bytes g).is_finite l.bytes-iterator
+    × (chunks_size l.bytes-iterator ≡ AT_ONCE)
+    × (IsPlainFormatter l.initial.f → (done : List ℕ) × HasWritten g.W.Write.write_str_gives l.initial.f done l.f
+    × (done ++ all_text l.self.notation (chunks_rest l.bytes-iterator) ≡ all_text l.self.notation l.self.bytes.now))
