@@ -18,8 +18,7 @@ pub fn number(word: &[u8]) -> Result<u64, Fault>
     if word.is_empty() || !all_digits(word) {
         return Err(Fault::NoNumber);
     }
-    match str::from_utf8(word) {
-        Ok(digits) => digits.parse().or(Err(Fault::NumberTooLarge)),
-        Err(_) => unreachable!(),
-    }
+    // SAFETY: digits are ASCII, and so text; `from_utf8` would look at each once more.
+    let digits = unsafe { str::from_utf8_unchecked(word) };
+    digits.parse().or(Err(Fault::NumberTooLarge))
 }

@@ -1,5 +1,5 @@
 // The steps of the memory: pages move, nodes are marked, a sync settles them; and what is looked for in it.
-ghost use Rattle.std.specs.Prelude.{◌≡◌, ◌+◌, ◌-◌, ◌*◌, ◌<◌, ◌≤◌, ◌&&◌, ◌||◌, if◌then◌else◌, ◌==◌, IfSome, length, nat_eq, nat_le, nat_lt};
+ghost use Rattle.std.specs.Prelude.{◌≡◌, ◌+◌, ◌-◌, ◌*◌, ◌<◌, ◌≤◌, ◌&&◌, ◌||◌, if◌then◌else◌, ◌==◌, IfSome, length, nat_eq, nat_le, nat_lt, not};
 ghost use Rattle.paging.specs.Layout.{numbers, rooms, inner, last_node};
 ghost use Rattle.paging.specs.Memory.{bare, mark, moved, placed, durable, settled, settled_at, settled_from, cleaned, cleaned_below, tidied, selected, vacant, find_down, free, target, find_blank, spare_from, with_dirty};
 ghost use Rattle.pages.specs.Flags.{as_place, claimed, with_flag, with_place, Twice};
@@ -247,13 +247,21 @@ impl<'a> Memory<'a> {
         }
     }
 
+    // Whether only the pages as they are may have a physical page.
+    fn is_own(&self, p: u64) -> bool
+        requires { p < rooms self.now.words.card.sectors }
+        ensures { result ≡ not ((seen self.now).held p) }
+    {
+        !self.words.has(Flag::Held, p)
+    }
+
     // Where a page that lies at a place is to be written: there, unless the synced pages have it too.
     pub(crate) fn target(&self, place: Option<u64>) -> Option<u64>
         requires { IsPlace self.now place }
         ensures { as_place result ≡ target (seen self.now) (as_place place) }
     {
         match place {
-            Some(p) if !self.words.has(Flag::Held, p) => Some(p),
+            Some(p) if self.is_own(p) => Some(p),
             _ => self.free(),
         }
     }

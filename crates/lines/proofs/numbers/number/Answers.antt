@@ -5,4 +5,4 @@ use Rattle.lines.proofs.numbers.number.Goals as goal
 pub returns : goal.returns
 returns c =
     let w = c.args.word.now in
-    c.or.ensures ∙ parsed w c.parse.result (search rules) (search rules) (rw c.in-Ok.ensures.cases.0 at c.parse.ensures.value.0)
+    c.or.ensures ∙ parsed w c.parse.result (search rules) (search rules) (rw c.from_utf8_unchecked-digits.ensures at c.parse.ensures.value.0)

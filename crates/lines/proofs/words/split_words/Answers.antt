@@ -1,16 +1,24 @@
-use Rattle.std.proofs.Common.{[], ap, ◌∙◌, rules, tests}
-use Rattle.std.proofs.lemmas.Result.{IfOk-weaker}
-use Rattle.std.proofs.lemmas.Iterator.Consumers.{map_from_collect, YieldsList-at, YieldsList-from_filter}
-use Rattle.std.proofs.lemmas.Iterator.Splits.{YieldsList-from_slice_split}
+use Rattle.std.proofs.Common.{◌+◌, ◌-◌, ◌++◌, take, drop, vec_items, ap, ◌∙◌, arith}
 use Rattle.lines.specs.Words.{cut}
-use Rattle.lines.proofs.Cuts.{is-space, is-word, words-split}
+use Rattle.lines.specs.Of.{words_in}
+use Rattle.lines.proofs.Cuts.{space-turn, solid-turn, last_turn}
 use Rattle.lines.proofs.words.split_words.Goals as goal
+use Rattle.lines.proofs.words.split_words.Goals.{then-b-eq-SPACE+in_ok-end_word, else-b-eq-SPACE}
+
+pub loop-i-preserved : goal.loop-i-preserved
+loop-i-preserved c =
+    let xs = c.without_return-line.result.now in
+    elim c.if-b-eq-SPACE.branch [
+      | then-b-eq-SPACE+in_ok-end_word w ↦ (
+        omega (arith, w.start-is),
+        space-turn (words_in (vec_items c.loop-i.words)) _ xs c.loop-i.start c.loop-i.i _ _ c.loop-i-test.true w.if-b-eq-SPACE.true w.start-is (ap (λ v. words_in (vec_items v)) w.words-is ∙ w.in_ok-end_word.ensures) c.loop-i.invariant.1,
+      )
+      | else-b-eq-SPACE w ↦ (
+        omega (arith, w.start-is),
+        ap (λ v. words_in (vec_items v) ++ cut (drop (c.loop-i.i + 1) xs) (take (c.loop-i.i + 1 - c.if-b-eq-SPACE.start) (drop c.if-b-eq-SPACE.start xs))) w.words-is ∙ solid-turn (words_in (vec_items c.loop-i.words)) xs c.loop-i.start c.loop-i.i _ _ c.loop-i.invariant.0 c.loop-i-test.true w.if-b-eq-SPACE.false w.start-is c.loop-i.invariant.1,
+      )
+    ]
 
 pub returns : goal.returns
 returns c =
-    let xs = c.without_return.result.now in
-    IfOk-weaker c.collect.result _ _ (λ v e. e ∙ words-split xs ∙ ap (λ t. cut t []) c.without_return.ensures)
-    (map_from_collect c.collect.result c.collect.ensures.ran
-    (YieldsList-from_filter _ is-word
-    (YieldsList-at c.filter.ensures.source (YieldsList-from_slice_split _ is-space xs c.split.ensures.rest c.split.ensures.done c.split.ensures.closure (λ x r q k. search (rules, tests))))
-    c.filter.ensures.closure (λ x r q k. search (rules, tests))))
+    last_turn (words_in (vec_items c.loop-i.words)) _ c.without_return-line.result.now c.args.line.now c.loop-i.start c.loop-i.i c.loop-i-test.false c.loop-i.auto.i-end c.without_return-line.ensures c.in_ok-end_word-2.ensures c.loop-i.invariant.1
